@@ -1,0 +1,87 @@
+// SHA-256 a 64-byte block: the proved code beside plain C, in one run.
+//
+// The plain C is what a reader of FIPS 180-4 writes down first: 64 message words, two rolled loops, no table tricks.
+// Runs alternate, so that a busy neighbour slows both, and the least of many runs counts. Prints the two times.
+#include <stddef.h>
+#include <stdint.h>
+#include <stdio.h>
+#include <string.h>
+#include <time.h>
+
+extern void zab_probe_sha256(const uint8_t *message, size_t length, uint8_t out[32]);
+
+static const uint32_t K[64] = {
+    0x428a2f98, 0x71374491, 0xb5c0fbcf, 0xe9b5dba5, 0x3956c25b, 0x59f111f1, 0x923f82a4, 0xab1c5ed5,
+    0xd807aa98, 0x12835b01, 0x243185be, 0x550c7dc3, 0x72be5d74, 0x80deb1fe, 0x9bdc06a7, 0xc19bf174,
+    0xe49b69c1, 0xefbe4786, 0x0fc19dc6, 0x240ca1cc, 0x2de92c6f, 0x4a7484aa, 0x5cb0a9dc, 0x76f988da,
+    0x983e5152, 0xa831c66d, 0xb00327c8, 0xbf597fc7, 0xc6e00bf3, 0xd5a79147, 0x06ca6351, 0x14292967,
+    0x27b70a85, 0x2e1b2138, 0x4d2c6dfc, 0x53380d13, 0x650a7354, 0x766a0abb, 0x81c2c92e, 0x92722c85,
+    0xa2bfe8a1, 0xa81a664b, 0xc24b8b70, 0xc76c51a3, 0xd192e819, 0xd6990624, 0xf40e3585, 0x106aa070,
+    0x19a4c116, 0x1e376c08, 0x2748774c, 0x34b0bcb5, 0x391c0cb3, 0x4ed8aa4a, 0x5b9cca4f, 0x682e6ff3,
+    0x748f82ee, 0x78a5636f, 0x84c87814, 0x8cc70208, 0x90befffa, 0xa4506ceb, 0xbef9a3f7, 0xc67178f2,
+};
+
+static uint32_t rotr(uint32_t x, int n) { return x >> n | x << (32 - n); }
+
+static void compress(uint32_t h[8], const uint8_t *block) {
+    uint32_t w[64], v[8];
+    for (int t = 0; t < 16; t++)
+        w[t] = (uint32_t)block[4 * t] << 24 | (uint32_t)block[4 * t + 1] << 16 | (uint32_t)block[4 * t + 2] << 8 | block[4 * t + 3];
+    for (int t = 16; t < 64; t++) {
+        uint32_t s0 = rotr(w[t - 15], 7) ^ rotr(w[t - 15], 18) ^ w[t - 15] >> 3;
+        uint32_t s1 = rotr(w[t - 2], 17) ^ rotr(w[t - 2], 19) ^ w[t - 2] >> 10;
+        w[t] = s1 + w[t - 7] + s0 + w[t - 16];
+    }
+    memcpy(v, h, sizeof v);
+    for (int t = 0; t < 64; t++) {
+        uint32_t t1 = v[7] + (rotr(v[4], 6) ^ rotr(v[4], 11) ^ rotr(v[4], 25)) + ((v[4] & v[5]) ^ (~v[4] & v[6])) + K[t] + w[t];
+        uint32_t t2 = (rotr(v[0], 2) ^ rotr(v[0], 13) ^ rotr(v[0], 22)) + ((v[0] & v[1]) ^ (v[0] & v[2]) ^ (v[1] & v[2]));
+        v[7] = v[6], v[6] = v[5], v[5] = v[4], v[4] = v[3] + t1;
+        v[3] = v[2], v[2] = v[1], v[1] = v[0], v[0] = t1 + t2;
+    }
+    for (int i = 0; i < 8; i++) h[i] += v[i];
+}
+
+static void plain_sha256(const uint8_t *m, size_t n, uint8_t out[32]) {
+    uint32_t h[8] = {0x6a09e667, 0xbb67ae85, 0x3c6ef372, 0xa54ff53a, 0x510e527f, 0x9b05688c, 0x1f83d9ab, 0x5be0cd19};
+    uint8_t end[128] = {0};
+    size_t whole = n / 64 * 64, size = n - whole < 56 ? 64 : 128;
+    for (size_t i = 0; i < whole; i += 64) compress(h, m + i);
+    memcpy(end, m + whole, n - whole);
+    end[n - whole] = 0x80;
+    for (int i = 0; i < 8; i++) end[size - 1 - i] = (uint8_t)((uint64_t)n * 8 >> 8 * i);
+    for (size_t i = 0; i < size; i += 64) compress(h, end + i);
+    for (int i = 0; i < 32; i++) out[i] = (uint8_t)(h[i / 4] >> (24 - 8 * (i % 4)));
+}
+
+static double seconds(void) {
+    struct timespec t;
+    clock_gettime(CLOCK_MONOTONIC, &t);
+    return t.tv_sec + t.tv_nsec * 1e-9;
+}
+
+typedef void hash(const uint8_t *, size_t, uint8_t[32]);
+
+static double ns_a_block(hash *f, const uint8_t *m, size_t n, uint8_t out[32]) {
+    double from = seconds();
+    f(m, n, out);
+    return (seconds() - from) * 1e9 / (n / 64 + 1);
+}
+
+int main(void) {
+    static uint8_t m[65536];
+    uint8_t ours[32], plain[32];
+    double least_ours = 1e9, least_plain = 1e9;
+    for (size_t i = 0; i < sizeof m; i++) m[i] = (uint8_t)(i % 251);
+    for (int run = 0; run < 2000; run++) {
+        double a = ns_a_block(zab_probe_sha256, m, sizeof m, ours), b = ns_a_block(plain_sha256, m, sizeof m, plain);
+        if (a < least_ours) least_ours = a;
+        if (b < least_plain) least_plain = b;
+    }
+    if (memcmp(ours, plain, 32) != 0) {
+        fputs("bench: the two hashes differ\n", stderr);
+        return 1;
+    }
+    printf("%.1f %.1f\n", least_ours, least_plain);
+    return 0;
+}

@@ -1,0 +1,44 @@
+-- Laws of `flat`, of lists of equal length above all.
+use mathlib.Core.Path.{_≡_, refl, sym, ap, ap₂, _∙_}
+use mathlib.Core.List.{List, [], _∷_, _++_, append-nil, append-assoc}
+use mathlib.Core.Logic.{⊎-elim}
+use Prim.Native.Nat.{ℕ, zero, suc, _+_, _*_, _<_}
+use native.Mathlib.Nat.{mul-zero, mul-suc, not-suc-le-zero, le-of-suc-le-suc, eq-or-lt-of-le}
+use lib.ListN.{length, take, drop, length-append}
+use lib.Seq.{take-at, drop-at}
+use Rattle.lists.specs.Lists.{tab, flat}
+
+-- one list more at the end
+pub flat-snoc {ℓ} : {A : Type ℓ} (l : List (List A)) (x : List A) → flat (l ++ (x ∷ [])) ≡ flat l ++ x
+unfolding flat
+flat-snoc [] x = append-nil x
+flat-snoc (y ∷ l) x = ap (λ (t : List _). y ++ t) (flat-snoc l x) ∙ sym (append-assoc y (flat l) x)
+
+-- n lists of w elements have w * n
+pub length-flat {ℓ} : {A : Type ℓ} (w n : ℕ) (f : ℕ → List A) → ((k : ℕ) → length (f k) ≡ w) → length (flat (tab n f)) ≡ w * n
+unfolding tab flat
+length-flat w zero f h = sym (mul-zero w)
+length-flat w (suc n) f h = rw (flat-snoc, length-append, length-flat w n f h, h n, mul-suc)
+
+-- what stands before list c, list c, and what comes after it
+flat-split {ℓ} : {A : Type ℓ} (n : ℕ) (f : ℕ → List A) (c : ℕ) → c < n
+    → (r : List A) × (flat (tab n f) ≡ flat (tab c f) ++ (f c ++ r))
+unfolding tab
+flat-split zero f c h = absurd (not-suc-le-zero h)
+flat-split (suc n) f c h =
+    ⊎-elim
+    (λ (e : c ≡ n). ([], rw (e, append-nil) (flat-snoc (tab n f) (f n))))
+    (λ (l : c < n).
+    let ih = flat-split n f c l in (ih .0 ++ f n, flat-snoc (tab n f) (f n) ∙ rw (ih .1, append-assoc, append-assoc)))
+    (eq-or-lt-of-le (le-of-suc-le-suc h))
+
+-- the w places of list c, where b places stand before the first list
+pub part-of-flat {ℓ} : {A : Type ℓ} (b w n : ℕ) (f : ℕ → List A) (p q : List A) (c : ℕ) → length p ≡ b
+    → ((k : ℕ) → length (f k) ≡ w) → c < n → take w (drop (b + w * c) (p ++ (flat (tab n f) ++ q))) ≡ f c
+part-of-flat {A} b w n f p q c lp lf h =
+    let s = flat-split n f c h in
+    let e : p ++ (flat (tab n f) ++ q) ≡ (p ++ flat (tab c f)) ++ (f c ++ (s .0 ++ q)) =
+    rw (s .1, append-assoc, append-assoc, append-assoc) in
+    let l : length (p ++ flat (tab c f)) ≡ b + w * c =
+    length-append p (flat (tab c f)) ∙ ap₂ (λ (x y : ℕ). x + y) lp (length-flat w c f lf) in
+    rw (e, drop-at (p ++ flat (tab c f)) (f c ++ (s .0 ++ q)) (b + w * c) l) (take-at (f c) (s .0 ++ q) w (lf c))

@@ -1,0 +1,4 @@
+-- The definitions of `lists`.
+pub mod Lists
+pub mod Bytes
+pub mod Loops

@@ -1,0 +1,5 @@
+-- The laws of `sha256`, and FIPS 180-4's example.
+pub mod Examples
+pub mod Schedule
+pub mod Blocks
+pub mod Endings

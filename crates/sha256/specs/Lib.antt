@@ -1,0 +1,3 @@
+-- The definitions that the contracts of `sha256` cite.
+pub mod Sha256
+pub mod Midstate
