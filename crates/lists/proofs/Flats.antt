@@ -4,9 +4,11 @@ use mathlib.Core.List.{List, [], _∷_, _++_, append-nil, append-assoc}
 use mathlib.Core.Logic.{⊎-elim}
 use Prim.Native.Nat.{ℕ, zero, suc, _+_, _*_, _<_}
 use native.Mathlib.Nat.{mul-zero, mul-suc, not-suc-le-zero, le-of-suc-le-suc, eq-or-lt-of-le}
-use lib.ListN.{length, take, drop, length-append}
-use lib.Seq.{take-at, drop-at}
-use Rattle.lists.specs.Lists.{tab, flat}
+use native.Mathlib.Omega.{arith}
+use lib.ListN.{length, getD, take, drop, length-append}
+use lib.Seq.{take-at, drop-at, take-add, drop-drop}
+use Rattle.lists.specs.Lists.{tab, flat, parts}
+use Rattle.lists.proofs.Tabs.{tab-getD, tab-ext}
 
 -- one list more at the end
 pub flat-snoc {ℓ} : {A : Type ℓ} (l : List (List A)) (x : List A) → flat (l ++ (x ∷ [])) ≡ flat l ++ x
@@ -15,10 +17,10 @@ flat-snoc [] x = append-nil x
 flat-snoc (y ∷ l) x = ap (λ (t : List _). y ++ t) (flat-snoc l x) ∙ sym (append-assoc y (flat l) x)
 
 -- n lists of w elements have w * n
-pub length-flat {ℓ} : {A : Type ℓ} (w n : ℕ) (f : ℕ → List A) → ((k : ℕ) → length (f k) ≡ w) → length (flat (tab n f)) ≡ w * n
+pub length-flat {ℓ} : {A : Type ℓ} (w n : ℕ) (f : ℕ → List A) → ((k : ℕ) → k < n → length (f k) ≡ w) → length (flat (tab n f)) ≡ w * n
 unfolding tab flat
 length-flat w zero f h = sym (mul-zero w)
-length-flat w (suc n) f h = rw (flat-snoc, length-append, length-flat w n f h, h n, mul-suc)
+length-flat w (suc n) f h = rw (flat-snoc, length-append, length-flat w n f (λ k q. h k (omega arith)), h n (omega arith), mul-suc)
 
 -- what stands before list c, list c, and what comes after it
 flat-split {ℓ} : {A : Type ℓ} (n : ℕ) (f : ℕ → List A) (c : ℕ) → c < n
@@ -34,11 +36,33 @@ flat-split (suc n) f c h =
 
 -- the w places of list c, where b places stand before the first list
 pub part-of-flat {ℓ} : {A : Type ℓ} (b w n : ℕ) (f : ℕ → List A) (p q : List A) (c : ℕ) → length p ≡ b
-    → ((k : ℕ) → length (f k) ≡ w) → c < n → take w (drop (b + w * c) (p ++ (flat (tab n f) ++ q))) ≡ f c
+    → ((k : ℕ) → k < n → length (f k) ≡ w) → c < n → take w (drop (b + w * c) (p ++ (flat (tab n f) ++ q))) ≡ f c
 part-of-flat {A} b w n f p q c lp lf h =
     let s = flat-split n f c h in
     let e : p ++ (flat (tab n f) ++ q) ≡ (p ++ flat (tab c f)) ++ (f c ++ (s .0 ++ q)) =
     rw (s .1, append-assoc, append-assoc, append-assoc) in
     let l : length (p ++ flat (tab c f)) ≡ b + w * c =
-    length-append p (flat (tab c f)) ∙ ap₂ (λ (x y : ℕ). x + y) lp (length-flat w c f lf) in
-    rw (e, drop-at (p ++ flat (tab c f)) (f c ++ (s .0 ++ q)) (b + w * c) l) (take-at (f c) (s .0 ++ q) w (lf c))
+    length-append p (flat (tab c f)) ∙ ap₂ (λ (x y : ℕ). x + y) lp (length-flat w c f (λ k q. lf k (omega arith))) in
+    rw (e, drop-at (p ++ flat (tab c f)) (f c ++ (s .0 ++ q)) (b + w * c) l) (take-at (f c) (s .0 ++ q) w (lf c h))
+
+-- the parts of a list of n lists of w elements are these lists
+pub parts-of-flat {ℓ} : {A : Type ℓ} (w n : ℕ) (l : List (List A)) (p q : List A) (b : ℕ) → length p ≡ b → length l ≡ n
+    → ((k : ℕ) → k < n → length (getD l k []) ≡ w) → parts w n b (p ++ (flat l ++ q)) ≡ l
+unfolding parts
+parts-of-flat {A} w n l p q b lp ll lf =
+    let f : ℕ → List A = λ k. getD l k [] in
+    let e : tab n f ≡ l = tab-getD n l [] ll in
+    ap (λ (t : List (List A)). tab n (λ c. take w (drop (b + w * c) (p ++ (flat t ++ q))))) (sym e)
+    ∙ tab-ext n _ f (λ c h. part-of-flat b w n f p q c lp lf h)
+    ∙ e
+
+-- n parts of w elements, one after the other, are a part of w * n
+pub flat-parts {ℓ} : {A : Type ℓ} (w n b : ℕ) (l : List A) → flat (parts w n b l) ≡ take (w * n) (drop b l)
+unfolding parts tab flat
+flat-parts w zero b l = rw mul-zero
+flat-parts w (suc n) b l =
+    let e : take (w * suc n) (drop b l) ≡ take (w * n) (drop b l) ++ take w (drop (b + w * n) l) =
+    rw (mul-suc, take-add (w * n) w (drop b l), drop-drop (w * n) b l) in
+    flat-snoc (tab n (λ c. take w (drop (b + w * c) l))) (take w (drop (b + w * n) l))
+    ∙ ap (λ (t : List _). t ++ take w (drop (b + w * n) l)) (flat-parts w n b l)
+    ∙ sym e

@@ -1,6 +1,13 @@
 -- Lists as loops make them. Over any type of elements.
+use mathlib.Core.Bool.{Bool, true, false}
 use mathlib.Core.List.{List, [], _∷_, _++_}
-use Prim.Native.Nat.{ℕ, zero, suc}
+use Prim.Native.Nat.{ℕ, zero, suc, _+_, _*_}
+use lib.ListN.{take, drop}
+
+-- one of two, by a test
+abbrev pub pick {ℓ} : {A : Type ℓ} → Bool → A → A → A
+pick true x y = x
+pick false x y = y
 
 -- the list of n elements whose element at place i is f i
 unfoldable pub tab {ℓ} : {A : Type ℓ} → ℕ → (ℕ → A) → List A
@@ -16,3 +23,7 @@ flat (x ∷ l) = x ++ flat l
 unfoldable pub turns {ℓ} : {A : Type ℓ} → ℕ → (ℕ → A → A) → A → A
 turns zero f x = x
 turns (suc n) f x = f n (turns n f x)
+
+-- the n parts of l, of w elements each, from place b on
+unfoldable pub parts {ℓ} : {A : Type ℓ} → ℕ → ℕ → ℕ → List A → List (List A)
+parts w n b l = tab n (λ c. take w (drop (b + w * c) l))

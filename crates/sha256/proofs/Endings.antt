@@ -84,3 +84,10 @@ finished-by s v k m p b n size j ev en eb ej lo hi d ed ep =
     let z : size - length d - 1 ≡ (119 - (64 * k + length m) % 64) % 64 = omega arith in
     let eb : b ≡ toByte (8 * (64 * k + length m)) 8 = eb ∙ ap (λ (x : ℕ). toByte (8 * x) 8) en ∙ bits-mod (64 * k + length m) in
     rw (ep, z, eb, w, ev) (sym (finished-ending s k m j (omega arith) (omega arith)))
+
+-- the hash where half a block is left: the padded rest is one block
+pub finished-half : (s : State) (k : ℕ) (m : List ℕ) → length m ≡ 32 → finished s k m ≡ digest (hashed 1 s (m ++ padding (64 * k + 32)))
+unfolding finished paddedRest
+finished-half s k m h =
+    let l : length (m ++ padding (64 * k + 32)) / 64 ≡ 1 = rw (length-append, length-padding) (omega arith) in
+    rw (h, l)

@@ -3,3 +3,4 @@ pub mod Examples
 pub mod Schedule
 pub mod Blocks
 pub mod Endings
+pub mod Digests

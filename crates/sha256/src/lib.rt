@@ -7,7 +7,7 @@ ghost use Prim.Native.Nat.{_+_, _-_, _*_, _/_, _%_, _^_, _<_, _≤_};
 ghost use lib.ListN.{length, take, replicate};
 ghost use lib.Seq.{paste};
 ghost use Rattle.lists.specs.Bytes.{toByte, number};
-ghost use Rattle.sha256.specs.Sha256.{plus, Ch, Maj, Σ₀, Σ₁, σ₀, σ₁, block, H₀, schedule, round, rounds, added, compressed, hashed, digest, sha256};
+ghost use Rattle.sha256.specs.Sha256.{plus, Ch, Maj, Σ₀, Σ₁, σ₀, σ₁, padding, block, H₀, schedule, round, rounds, added, compressed, hashed, digest, sha256};
 ghost use Rattle.sha256.specs.Midstate.{finished};
 use std::num::wrapping_add_u32;
 use std::num::wrapping_add_usize;
@@ -375,6 +375,69 @@ pub fn finish(s: State, before: u32, m: &[u8]) -> [u8; 32]
         let p = ending(&m[from..], 120, bits);
         digest_of(absorb(v, &p))
     }
+}
+
+// One block of two halves.
+pub fn joined(a: [u8; 32], b: [u8; 32]) -> [u8; 64]
+    ensures { λ r. ⌜ r ≡ a ++ b ⌝ }
+{
+    let mut m = [0u8; 64];
+    let mut i = 0;
+    while i < 32 {
+        m[i] = a[i];
+        m[32 + i] = b[i];
+        i += 1;
+    }
+    m
+}
+
+// What pads a message of `before` blocks and a half.
+fn half_padding(before: u32) -> [u8; 32]
+    ensures { λ r. ⌜ r ≡ padding (64 * before + 32) ⌝ }
+{
+    let bits = bit_length(64 * (before as usize) + 32);
+    [
+        0x80,
+        0,
+        0,
+        0,
+        0,
+        0,
+        0,
+        0,
+        0,
+        0,
+        0,
+        0,
+        0,
+        0,
+        0,
+        0,
+        0,
+        0,
+        0,
+        0,
+        0,
+        0,
+        0,
+        0,
+        bits[0],
+        bits[1],
+        bits[2],
+        bits[3],
+        bits[4],
+        bits[5],
+        bits[6],
+        bits[7],
+    ]
+}
+
+// What finish gives where half a block is left: chains and addresses end so, and it takes one block and no copying.
+pub fn finish_half(s: State, before: u32, m: [u8; 32]) -> [u8; 32]
+    ensures { λ r. ⌜ r ≡ finished s before m ⌝ }
+{
+    let last = joined(m, half_padding(before));
+    digest_of(absorb(s, &last))
 }
 
 // The hash of a message of any length.

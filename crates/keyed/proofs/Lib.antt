@@ -1,0 +1,3 @@
+-- The laws of `keyed`.
+pub mod Suites
+pub mod Blocks

@@ -1,0 +1,2 @@
+-- The laws by which `onetime` puts chains together, at values of 32 bytes.
+pub mod Ends

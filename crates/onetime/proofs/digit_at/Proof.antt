@@ -1,0 +1,21 @@
+-- The two halves of a byte.
+use native.Mathlib.Omega.{arith}
+use Prim.Native.Nat.{_-_, _%_}
+use mathlib.Core.Path.{_≡_}
+use borrow.Author.Needs.{needs}
+use Rattle.onetime.proofs.digit_at.Statement.{statement}
+use Rattle.onetime.proofs.digit_at.Tie as tie
+
+shared-slice-read-b : tie.Need-shared-slice-read-b
+shared-slice-read-b c = search needs
+
+returns : tie.Need-returns
+returns c = (rw (c .if1 .taken), omega arith)
+
+returns-2 : tie.Need-returns-2
+returns-2 c =
+    let e : c .before .before .args .i % 2 ≡ 1 = omega arith in
+    (rw e, omega arith)
+
+pub digit-at-spec : {M : Type 1} → statement M
+digit-at-spec = tie.close (tie.spec shared-slice-read-b returns returns-2)

@@ -1,0 +1,2 @@
+-- The definitions that the contracts of `onetime` cite beside RFC 8391's.
+pub mod Secrets

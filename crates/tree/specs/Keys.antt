@@ -1,0 +1,12 @@
+-- The leaves of a key by our rule for secret values, over the suite of its public seed.
+use mathlib.Core.List.{List}
+use Prim.Native.Nat.{ℕ}
+use Rattle.rfc8391.specs.House.{secrets}
+use Rattle.rfc8391.specs.Xmss.{leafOf}
+use Rattle.rfc8391.specs.declared.Address.{Address}
+use Rattle.keyed.specs.Seeds.{suiteOf}
+use Rattle.keyed.specs.declared.Seed.{Seed}
+
+-- leaf i of the key with the secret seed sk and the public seed s, at the address a
+unfoldable pub leafAt : List ℕ → Seed → Address → ℕ → List ℕ
+leafAt sk s a = leafOf (suiteOf s) (s .bytes) a (secrets (suiteOf s) sk (s .bytes) a)

@@ -1,0 +1,2 @@
+-- The contracts of `tree` cite RFC 8391's definitions; this names the secret values of a whole key.
+pub mod Keys
