@@ -1,19 +1,22 @@
 # The one place for commands. `make` alone lists them.
 .DEFAULT_GOAL := help
+SHELL := bash
+.SHELLFLAGS := -euo pipefail -c
 .PHONY: help run test bench fmt vectors clean
 
 help: ## this list
 	@sed -n 's/^\([a-z]*\):.*## /  make \1	/p' $(MAKEFILE_LIST) | expand -t 16
 
-run: ## prove SHA-256 and run NIST's vectors through it
-	@rt check vectors | tail -n 1
-	@target/bin/vectors <crates/vectors/stdin | diff - crates/vectors/stdout
-	@echo "$$(wc -l <crates/vectors/stdout) digests computed, each as NIST's files or Python's hashlib have it"
+run: ## make three whole keys, sign with each, compare with the independent program
+	@rt check whole_keys | tail -n 1
+	@target/bin/whole_keys
+	@PYTHONDONTWRITEBYTECODE=1 python3 tests/reference/whole_keys.py | cmp - crates/whole_keys/stdout
+	@echo "an independent program computed the same bytes"
 
 test: ## the gate: every proof from nothing, must-fail edits, programs, tests outside Rattle
 	@.ci/run
 
-bench: ## SHA-256 beside plain C and OpenSSL, in one run
+bench: ## SHA-256, a leaf and a whole key beside plain C, in one run
 	@bench/run
 
 fmt: ## lay out every .rt and .antt file

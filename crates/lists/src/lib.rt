@@ -1,3 +1,46 @@
 // Lists as loops make them: by a rule on the index, part after part, turn after turn; and numbers in bytes.
-// Definitions are in specs/, their laws in proofs/. There is no code here.
+// Definitions are in specs/, their laws in proofs/, and here the code that SHA-256 and RFC 8391 share.
 // Uses nothing; every other crate uses it.
+ghost use mathlib.Core.Path.{_≡_};
+ghost use mathlib.Core.List.{_++_};
+ghost use Rattle.lists.specs.Bytes.{toByte};
+
+// Eight words in 32 bytes: a digest, and an address.
+pub fn eight_words(a: u32, b: u32, c: u32, d: u32, e: u32, f: u32, g: u32, h: u32) -> [u8; 32]
+    ensures { λ r. ⌜ r ≡ toByte a 4 ++ (toByte b 4 ++ (toByte c 4 ++ (toByte d 4 ++ (toByte e 4 ++ (toByte f 4 ++ (toByte g 4 ++ toByte h 4)))))) ⌝ }
+{
+    [
+        (a / 0x100_0000 % 256) as u8,
+        (a / 0x1_0000 % 256) as u8,
+        (a / 0x100 % 256) as u8,
+        (a / 1 % 256) as u8,
+        (b / 0x100_0000 % 256) as u8,
+        (b / 0x1_0000 % 256) as u8,
+        (b / 0x100 % 256) as u8,
+        (b / 1 % 256) as u8,
+        (c / 0x100_0000 % 256) as u8,
+        (c / 0x1_0000 % 256) as u8,
+        (c / 0x100 % 256) as u8,
+        (c / 1 % 256) as u8,
+        (d / 0x100_0000 % 256) as u8,
+        (d / 0x1_0000 % 256) as u8,
+        (d / 0x100 % 256) as u8,
+        (d / 1 % 256) as u8,
+        (e / 0x100_0000 % 256) as u8,
+        (e / 0x1_0000 % 256) as u8,
+        (e / 0x100 % 256) as u8,
+        (e / 1 % 256) as u8,
+        (f / 0x100_0000 % 256) as u8,
+        (f / 0x1_0000 % 256) as u8,
+        (f / 0x100 % 256) as u8,
+        (f / 1 % 256) as u8,
+        (g / 0x100_0000 % 256) as u8,
+        (g / 0x1_0000 % 256) as u8,
+        (g / 0x100 % 256) as u8,
+        (g / 1 % 256) as u8,
+        (h / 0x100_0000 % 256) as u8,
+        (h / 0x1_0000 % 256) as u8,
+        (h / 0x100 % 256) as u8,
+        (h / 1 % 256) as u8,
+    ]
+}

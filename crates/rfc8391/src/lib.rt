@@ -127,40 +127,16 @@ impl Address {
     pub fn encode(self) -> [u8; 32]
         ensures { λ r. ⌜ r ≡ addressBytes self ⌝ }
     {
-        [
-            (self.layer / 0x100_0000 % 256) as u8,
-            (self.layer / 0x1_0000 % 256) as u8,
-            (self.layer / 0x100 % 256) as u8,
-            (self.layer / 1 % 256) as u8,
-            (self.treehigh / 0x100_0000 % 256) as u8,
-            (self.treehigh / 0x1_0000 % 256) as u8,
-            (self.treehigh / 0x100 % 256) as u8,
-            (self.treehigh / 1 % 256) as u8,
-            (self.treelow / 0x100_0000 % 256) as u8,
-            (self.treelow / 0x1_0000 % 256) as u8,
-            (self.treelow / 0x100 % 256) as u8,
-            (self.treelow / 1 % 256) as u8,
-            (self.kind / 0x100_0000 % 256) as u8,
-            (self.kind / 0x1_0000 % 256) as u8,
-            (self.kind / 0x100 % 256) as u8,
-            (self.kind / 1 % 256) as u8,
-            (self.w4 / 0x100_0000 % 256) as u8,
-            (self.w4 / 0x1_0000 % 256) as u8,
-            (self.w4 / 0x100 % 256) as u8,
-            (self.w4 / 1 % 256) as u8,
-            (self.w5 / 0x100_0000 % 256) as u8,
-            (self.w5 / 0x1_0000 % 256) as u8,
-            (self.w5 / 0x100 % 256) as u8,
-            (self.w5 / 1 % 256) as u8,
-            (self.w6 / 0x100_0000 % 256) as u8,
-            (self.w6 / 0x1_0000 % 256) as u8,
-            (self.w6 / 0x100 % 256) as u8,
-            (self.w6 / 1 % 256) as u8,
-            (self.w7 / 0x100_0000 % 256) as u8,
-            (self.w7 / 0x1_0000 % 256) as u8,
-            (self.w7 / 0x100 % 256) as u8,
-            (self.w7 / 1 % 256) as u8,
-        ]
+        lists::eight_words(
+            self.layer,
+            self.treehigh,
+            self.treelow,
+            self.kind,
+            self.w4,
+            self.w5,
+            self.w6,
+            self.w7,
+        )
     }
 }
 

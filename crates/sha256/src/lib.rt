@@ -4,8 +4,9 @@
 ghost use mathlib.Core.Path.{_≡_};
 ghost use mathlib.Core.List.{_∷_, _++_};
 ghost use Prim.Native.Nat.{_+_, _-_, _*_, _/_, _%_, _^_, _<_, _≤_};
-ghost use lib.ListN.{length, take, replicate};
+ghost use lib.ListN.{length, getD, take, replicate};
 ghost use lib.Seq.{paste};
+ghost use Rattle.lists.specs.Lists.{turns};
 ghost use Rattle.lists.specs.Bytes.{toByte, number};
 ghost use Rattle.sha256.specs.Sha256.{plus, Ch, Maj, Σ₀, Σ₁, σ₀, σ₁, padding, block, H₀, schedule, round, rounds, added, compressed, hashed, digest, sha256};
 ghost use Rattle.sha256.specs.Midstate.{finished};
@@ -216,6 +217,17 @@ fn one_round(s: State, k: u32, w: u32) -> State
     }
 }
 
+// Written out, so that the variables change their roles and few words have to be moved.
+fn four_rounds(v: State, k: &[u32; 64], w: &[u32; 64], t: usize) -> State
+    requires { ⌜ t + 4 ≤ 64 ⌝ }
+    ensures { λ r. ⌜ r ≡ turns 4 (λ i x. round x (getD (now (k .entry)) (t + i) 0) (getD (now (w .entry)) (t + i) 0)) v ⌝ }
+{
+    let v1 = one_round(v, k[t], w[t]);
+    let v2 = one_round(v1, k[t + 1], w[t + 1]);
+    let v3 = one_round(v2, k[t + 2], w[t + 2]);
+    one_round(v3, k[t + 3], w[t + 3])
+}
+
 fn all_rounds(s: State, w: [u32; 64]) -> State
     ensures { λ r. ⌜ r ≡ rounds 64 s w ⌝ }
 {
@@ -224,8 +236,8 @@ fn all_rounds(s: State, w: [u32; 64]) -> State
     let mut v = s;
     let mut t = 0;
     while t < 64 {
-        v = one_round(v, k[t], w[t]);
-        t += 1;
+        v = four_rounds(v, &k, &w, t);
+        t += 4;
     }
     v
 }
@@ -324,40 +336,7 @@ fn ending(m: &[u8], size: usize, bits: [u8; 8]) -> [u8; 128]
 fn digest_of(s: State) -> [u8; 32]
     ensures { λ r. ⌜ r ≡ digest s ⌝ }
 {
-    [
-        (s.a / 0x100_0000 % 256) as u8,
-        (s.a / 0x1_0000 % 256) as u8,
-        (s.a / 0x100 % 256) as u8,
-        (s.a / 1 % 256) as u8,
-        (s.b / 0x100_0000 % 256) as u8,
-        (s.b / 0x1_0000 % 256) as u8,
-        (s.b / 0x100 % 256) as u8,
-        (s.b / 1 % 256) as u8,
-        (s.c / 0x100_0000 % 256) as u8,
-        (s.c / 0x1_0000 % 256) as u8,
-        (s.c / 0x100 % 256) as u8,
-        (s.c / 1 % 256) as u8,
-        (s.d / 0x100_0000 % 256) as u8,
-        (s.d / 0x1_0000 % 256) as u8,
-        (s.d / 0x100 % 256) as u8,
-        (s.d / 1 % 256) as u8,
-        (s.e / 0x100_0000 % 256) as u8,
-        (s.e / 0x1_0000 % 256) as u8,
-        (s.e / 0x100 % 256) as u8,
-        (s.e / 1 % 256) as u8,
-        (s.f / 0x100_0000 % 256) as u8,
-        (s.f / 0x1_0000 % 256) as u8,
-        (s.f / 0x100 % 256) as u8,
-        (s.f / 1 % 256) as u8,
-        (s.g / 0x100_0000 % 256) as u8,
-        (s.g / 0x1_0000 % 256) as u8,
-        (s.g / 0x100 % 256) as u8,
-        (s.g / 1 % 256) as u8,
-        (s.h / 0x100_0000 % 256) as u8,
-        (s.h / 0x1_0000 % 256) as u8,
-        (s.h / 0x100 % 256) as u8,
-        (s.h / 1 % 256) as u8,
-    ]
+    lists::eight_words(s.a, s.b, s.c, s.d, s.e, s.f, s.g, s.h)
 }
 
 // The hash of a message whose first `before` blocks led to the hash value s, and of which m is left.

@@ -1,14 +1,10 @@
-// SHA-256 a 64-byte block: the proved code beside plain C, in one run.
-//
-// The plain C is what a reader of FIPS 180-4 writes down first: 64 message words, two rolled loops, no table tricks.
-// Runs alternate, so that a busy neighbour slows both, and the least of many runs counts. Prints the two times.
+// SHA-256 in plain C, as a reader of FIPS 180-4 writes it down first: 64 message words, rolled loops, no table tricks.
+// It is what our speed is measured by.
 #include <stddef.h>
 #include <stdint.h>
-#include <stdio.h>
 #include <string.h>
-#include <time.h>
 
-extern void zab_probe_sha256(const uint8_t *message, size_t length, uint8_t out[32]);
+#include "bench.h"
 
 static const uint32_t K[64] = {
     0x428a2f98, 0x71374491, 0xb5c0fbcf, 0xe9b5dba5, 0x3956c25b, 0x59f111f1, 0x923f82a4, 0xab1c5ed5,
@@ -42,7 +38,7 @@ static void compress(uint32_t h[8], const uint8_t *block) {
     for (int i = 0; i < 8; i++) h[i] += v[i];
 }
 
-static void plain_sha256(const uint8_t *m, size_t n, uint8_t out[32]) {
+void plain_sha256(const uint8_t *m, size_t n, uint8_t out[32]) {
     uint32_t h[8] = {0x6a09e667, 0xbb67ae85, 0x3c6ef372, 0xa54ff53a, 0x510e527f, 0x9b05688c, 0x1f83d9ab, 0x5be0cd19};
     uint8_t end[128] = {0};
     size_t whole = n / 64 * 64, size = n - whole < 56 ? 64 : 128;
@@ -52,36 +48,4 @@ static void plain_sha256(const uint8_t *m, size_t n, uint8_t out[32]) {
     for (int i = 0; i < 8; i++) end[size - 1 - i] = (uint8_t)((uint64_t)n * 8 >> 8 * i);
     for (size_t i = 0; i < size; i += 64) compress(h, end + i);
     for (int i = 0; i < 32; i++) out[i] = (uint8_t)(h[i / 4] >> (24 - 8 * (i % 4)));
-}
-
-static double seconds(void) {
-    struct timespec t;
-    clock_gettime(CLOCK_MONOTONIC, &t);
-    return t.tv_sec + t.tv_nsec * 1e-9;
-}
-
-typedef void hash(const uint8_t *, size_t, uint8_t[32]);
-
-static double ns_a_block(hash *f, const uint8_t *m, size_t n, uint8_t out[32]) {
-    double from = seconds();
-    f(m, n, out);
-    return (seconds() - from) * 1e9 / (n / 64 + 1);
-}
-
-int main(void) {
-    static uint8_t m[65536];
-    uint8_t ours[32], plain[32];
-    double least_ours = 1e9, least_plain = 1e9;
-    for (size_t i = 0; i < sizeof m; i++) m[i] = (uint8_t)(i % 251);
-    for (int run = 0; run < 2000; run++) {
-        double a = ns_a_block(zab_probe_sha256, m, sizeof m, ours), b = ns_a_block(plain_sha256, m, sizeof m, plain);
-        if (a < least_ours) least_ours = a;
-        if (b < least_plain) least_plain = b;
-    }
-    if (memcmp(ours, plain, 32) != 0) {
-        fputs("bench: the two hashes differ\n", stderr);
-        return 1;
-    }
-    printf("%.1f %.1f\n", least_ours, least_plain);
-    return 0;
 }

@@ -1,0 +1,2 @@
+-- The laws that the proofs of `probe` cite.
+pub mod Named
