@@ -1,6 +1,5 @@
 -- What every suite of this crate has, for callers that go by `suiteOf`.
 use mathlib.Core.Path.{_≡_, refl}
-use Rattle.rfc8391.specs.Suite.{Suite}
 use Rattle.keyed.specs.Sha2.{sha2}
 use Rattle.keyed.specs.Seeds.{suiteOf}
 use Rattle.keyed.specs.declared.Seed.{Seed}

@@ -3,7 +3,7 @@ use mathlib.Core.List.{List, [], _∷_, _++_}
 use Prim.Native.Nat.{ℕ, zero, suc, _+_, _<_}
 use lib.ListN.{getD, take, drop}
 use lib.Seq.{getD-drop}
-use Rattle.lists.specs.Lists.{tab, flat}
+use Rattle.lists.specs.Lists.{tab}
 use Rattle.lists.specs.Bytes.{Bytes, toByte}
 use native.Mathlib.Nat.{mod-lt}
 use native.Mathlib.Omega.{arith}

@@ -1,9 +1,9 @@
 -- Chain steps, chain values and chain ends from what the calls give, over any suite of 32-byte values.
-use mathlib.Core.Path.{_≡_, refl, sym, ap, _∙_}
+use mathlib.Core.Path.{_≡_, sym, ap, _∙_}
 use mathlib.Core.List.{List, []}
-use Prim.Native.Nat.{ℕ, _+_, _-_, _*_, _<_, _≤_}
+use Prim.Native.Nat.{ℕ, _+_, _-_, _*_, _≤_}
 use native.Mathlib.Omega.{arith}
-use lib.ListN.{length, getD, take, drop}
+use lib.ListN.{getD, take, drop}
 use Rattle.lists.specs.Lists.{tab, parts}
 use Rattle.lists.proofs.Tabs.{tab-ext, getD-tab}
 use Rattle.rfc8391.specs.Suite.{Suite, xor}

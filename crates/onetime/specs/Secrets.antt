@@ -3,7 +3,6 @@ use mathlib.Core.Path.{_≡_}
 use mathlib.Core.List.{List}
 use Prim.Native.Nat.{ℕ}
 use Rattle.lists.specs.Bytes.{toByte}
-use Rattle.rfc8391.specs.Suite.{Suite}
 use Rattle.rfc8391.specs.Address.{setChainAddress}
 use Rattle.rfc8391.specs.House.{secretValue}
 use Rattle.keyed.specs.Seeds.{suiteOf, Prepared}

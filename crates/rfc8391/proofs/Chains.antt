@@ -1,11 +1,11 @@
 -- Laws of chains, over any suite: walks compose, and signing and checking meet at the chain's end.
-use mathlib.Core.Path.{_≡_, refl, sym, ap, ap₂, _∙_}
+use mathlib.Core.Path.{_≡_, refl, ap, _∙_}
 use mathlib.Core.List.{List, []}
-use Prim.Native.Nat.{ℕ, zero, suc, _+_, _-_, _*_, _<_, _≤_}
+use Prim.Native.Nat.{ℕ, zero, suc, _+_, _-_, _≤_}
 use native.Mathlib.Nat.{add-assoc}
 use native.Mathlib.Omega.{arith}
-use lib.ListN.{length, getD}
-use Rattle.lists.specs.Lists.{tab, turns}
+use lib.ListN.{getD}
+use Rattle.lists.specs.Lists.{turns}
 use Rattle.lists.proofs.Tabs.{tab-ext, getD-tab}
 use Rattle.lists.proofs.Turns.{turns-more, turns-add, turns-ext}
 use Rattle.rfc8391.specs.Suite.{Suite, Value, Values}

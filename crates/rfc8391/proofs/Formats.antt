@@ -1,14 +1,14 @@
 -- Keys and signatures are read from their bytes, and written, without a byte unread: both round trips.
 use mathlib.Core.Path.{_≡_, refl, sym, ap, ap₂, _∙_}
 use mathlib.Core.List.{List, [], _++_, append-nil, append-assoc}
-use Prim.Native.Nat.{ℕ, _+_, _*_, _%_, _^_, _<_, _≤_}
-use native.Mathlib.Nat.{mod-eq-of-lt, add-assoc}
+use Prim.Native.Nat.{ℕ, _+_, _*_, _^_, _<_}
+use native.Mathlib.Nat.{mod-eq-of-lt}
 use native.Mathlib.Omega.{arith}
 use lib.ListN.{length, getD, take, drop, length-append, length-drop, take-append-drop}
 use lib.Seq.{take-at, drop-at, take-all, drop-drop}
-use Rattle.lists.specs.Lists.{tab, flat, parts}
+use Rattle.lists.specs.Lists.{flat, parts}
 use Rattle.lists.specs.Bytes.{Bytes, toByte, number}
-use Rattle.lists.proofs.Tabs.{length-tab, tab-getD}
+use Rattle.lists.proofs.Tabs.{tab-getD}
 use Rattle.lists.proofs.Flats.{length-flat, parts-of-flat, flat-parts}
 use Rattle.lists.proofs.Numbers.{length-toByte, number-front, number-toByte, toByte-number}
 use Rattle.rfc8391.specs.Xmss.{Signature, PublicKey}

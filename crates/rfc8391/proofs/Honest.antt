@@ -1,18 +1,16 @@
 -- An honest signature verifies, over any suite, any secret values and any height.
-use mathlib.Core.Path.{_≡_, refl, sym, ap, _∙_}
-use mathlib.Core.List.{List, []}
-use Prim.Native.Nat.{ℕ, _+_, _*_, _^_, _<_}
+use mathlib.Core.Path.{_≡_, ap, _∙_}
+use mathlib.Core.List.{List}
+use Prim.Native.Nat.{ℕ, _^_, _<_}
 use native.Mathlib.Omega.{arith}
-use lib.ListN.{length}
-use Rattle.lists.specs.Lists.{tab}
 use Rattle.lists.proofs.Tabs.{length-tab}
 use Rattle.rfc8391.specs.Suite.{Suite, Value, Values}
-use Rattle.rfc8391.specs.Wots.{len, wotsPk, wotsSign}
-use Rattle.rfc8391.specs.Xmss.{PublicKey, Signature, otsAt, ltreeAt, messageDigest, ltree, node, authPath, rootFromPath, rootFromSig, leafOf, rootOf, signatureOf, verify}
-use Rattle.rfc8391.specs.House.{secretValue, secrets}
+use Rattle.rfc8391.specs.Wots.{wotsPk, wotsSign}
+use Rattle.rfc8391.specs.Xmss.{otsAt, ltreeAt, messageDigest, ltree, authPath, rootFromPath, rootFromSig, leafOf, rootOf, publicKeyOf, signatureOf, verify}
+use Rattle.rfc8391.specs.House.{secretValue}
 use Rattle.rfc8391.specs.declared.Address.{Address}
 use Rattle.rfc8391.proofs.Values.{tab-values}
-use Rattle.rfc8391.proofs.Chains.{sign-values, pk-values, signature-leads-to-key}
+use Rattle.rfc8391.proofs.Chains.{pk-values, signature-leads-to-key}
 use Rattle.rfc8391.proofs.Ltrees.{ltree-value}
 use Rattle.rfc8391.proofs.Trees.{node-value, path-leads-to-root}
 
@@ -51,6 +49,6 @@ module _ (S : Suite) where
 
     -- and so an honest signature of any message verifies
     pub honest-verifies : (t h i : ℕ) (prf m : List ℕ) → i < 2 ^ h
-        → verify S a h (record { type = t; root = rootOf S seed a sk h; seed = seed }) m (signatureOf S seed a sk prf h i m)
-    unfolding verify signatureOf
+        → verify S a h (publicKeyOf S seed t a sk h) m (signatureOf S seed a sk prf h i m)
+    unfolding verify publicKeyOf signatureOf
     honest-verifies t h i prf m q = honest-root h i _ q

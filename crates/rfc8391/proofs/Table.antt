@@ -1,13 +1,11 @@
 -- Rows 1 to 7 of the table hold of the definitions, by computing.
-use mathlib.Core.Path.{_≡_, refl}
-use mathlib.Core.List.{List}
-use Prim.Native.Nat.{ℕ}
+use mathlib.Core.Path.{refl}
 use Rattle.lists.specs.Lists.{tab, turns}
 use Rattle.lists.specs.Bytes.{toByte}
 use Rattle.rfc8391.specs.Wots.{base_w, checksum, total, digits}
 use Rattle.rfc8391.specs.Xmss.{sibling, ltreeNode, ltreeRound}
 use Rattle.rfc8391.specs.Formats.{pathStart, signatureLength, keyType}
-use Rattle.rfc8391.specs.Table.{Digits, SchemeRows}
+use Rattle.rfc8391.specs.Table.{SchemeRows}
 
 pub scheme-rows : SchemeRows
 unfolding tab turns toByte base_w checksum total digits pathStart signatureLength keyType ltreeNode ltreeRound sibling

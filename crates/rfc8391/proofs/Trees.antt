@@ -1,16 +1,13 @@
 -- Laws of the tree, over any suite, leaf function and height: the honest path leads to the root.
 use mathlib.Core.Path.{_≡_, refl, sym, ap, ap₂, _∙_}
 use mathlib.Core.List.{List, []}
-use mathlib.Core.Bool.{Bool, true, false}
 use mathlib.Core.Logic.{⊎-elim}
 use Prim.Native.Nat.{ℕ, zero, suc, _+_, _-_, _*_, _/_, _%_, _^_, _<_, _≤_}
 use native.Mathlib.Nat.{le-refl, div-one, div-eq-of-lt, div-div-eq-div-mul, pow-suc, eq-zero-or-pos}
 use native.Mathlib.Omega.{arith}
 use borrow.Author.Tests.{eq-eqb, ne-eqb}
 use lib.Bits.{differ, bitXor, xor-step, xor-zero-r}
-use lib.Dec.{eqb}
-use lib.ListN.{length, getD}
-use Rattle.lists.specs.Lists.{tab, turns, pick}
+use Rattle.lists.specs.Lists.{turns}
 use Rattle.lists.proofs.Tabs.{getD-tab}
 use Rattle.rfc8391.specs.Suite.{Suite, Value}
 use Rattle.rfc8391.specs.Xmss.{treeAt, sibling, randHash, node, authPath, climb, rootFromPath}

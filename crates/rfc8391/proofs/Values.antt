@@ -1,9 +1,7 @@
 -- Laws of values and lists of them.
-use mathlib.Core.Path.{_≡_}
 use mathlib.Core.List.{List, []}
 use Prim.Native.Nat.{ℕ, _<_}
 use native.Mathlib.Omega.{arith}
-use lib.ListN.{length, getD}
 use Rattle.lists.specs.Lists.{tab}
 use Rattle.lists.proofs.Tabs.{length-tab, getD-tab}
 use Rattle.rfc8391.specs.Suite.{Value, Values}

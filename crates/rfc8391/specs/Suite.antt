@@ -30,6 +30,6 @@ pub record Suite : Type 0 where
   pub Hmsg-value : (k m : List ℕ) → Value n (Hmsg k m)
   pub PRF-value : (k m : List ℕ) → Value n (PRF k m)
 
--- 2.2: the exclusive or of two values of n bytes, byte by byte
+-- the exclusive or of two values of n bytes, byte by byte
 unfoldable pub xor : ℕ → List ℕ → List ℕ → List ℕ
 xor n x y = tab n (λ i. bitXor (getD x i 0) (getD y i 0))

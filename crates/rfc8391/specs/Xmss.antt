@@ -89,9 +89,12 @@ module _ (S : Suite) where
     unfoldable pub leafOf : Address → (ℕ → ℕ → List ℕ) → ℕ → List ℕ
     leafOf a sk i = ltree (ltreeAt a i) (wotsPk S seed (otsAt a i) (sk i))
 
-    -- 4.1.7, Algorithm 10: the root of such a key
+    -- 4.1.7, Algorithm 10: the root of such a key, and its public key, of type t
     unfoldable pub rootOf : Address → (ℕ → ℕ → List ℕ) → ℕ → List ℕ
     rootOf a sk h = node a (leafOf a sk) h 0
+
+    unfoldable pub publicKeyOf : ℕ → Address → (ℕ → ℕ → List ℕ) → ℕ → PublicKey
+    publicKeyOf t a sk h = record { type = t; root = rootOf a sk h; seed = seed }
 
     -- 4.1.9, Algorithms 11 and 12: the signature of a message by leaf i, with r of the message key
     unfoldable pub signatureOf : Address → (ℕ → ℕ → List ℕ) → List ℕ → ℕ → ℕ → List ℕ → Signature

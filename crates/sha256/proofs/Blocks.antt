@@ -1,11 +1,10 @@
 -- A message's blocks, where the message comes in two parts.
 use mathlib.Core.Path.{_≡_, refl, sym, ap, _∙_}
 use mathlib.Core.List.{List, [], _++_, append-assoc}
-use Prim.Native.Nat.{ℕ, _+_, _-_, _*_, _/_, _%_, _≤_, _<_}
+use Prim.Native.Nat.{ℕ, _+_, _-_, _*_, _/_, _≤_}
 use native.Mathlib.Omega.{arith}
 use lib.ListN.{length, length-append}
-use Rattle.lists.specs.Lists.{tab, turns}
-use Rattle.lists.specs.Bytes.{number}
+use Rattle.lists.specs.Lists.{turns}
 use Rattle.lists.proofs.Tabs.{tab-ext}
 use Rattle.lists.proofs.Turns.{turns-add, turns-ext}
 use Rattle.lists.proofs.Numbers.{number-front, number-back}

@@ -7,7 +7,6 @@ use Rattle.lists.specs.Bytes.{Bytes, toByte}
 use Rattle.lists.proofs.Numbers.{length-toByte}
 use Rattle.lists.proofs.Everywhere.{append-all, toByte-bytes}
 use Rattle.sha256.specs.Sha256.{digest, sha256}
-use Rattle.sha256.specs.declared.State.{State}
 
 -- it has 32
 pub length-sha256 : (m : List ℕ) → length (sha256 m) ≡ 32

@@ -1,10 +1,10 @@
 -- The message schedule, one word after the other.
-use mathlib.Core.Path.{_≡_, refl, sym, _∙_}
-use mathlib.Core.List.{List, [], _∷_, _++_}
+use mathlib.Core.Path.{_≡_, sym, _∙_}
+use mathlib.Core.List.{List}
 use Prim.Native.Nat.{ℕ, suc, _+_, _-_, _≤_, _<_}
 use native.Mathlib.Numerals.{add-one}
 use native.Mathlib.Omega.{arith}
-use lib.ListN.{length, getD, take, set}
+use lib.ListN.{length, take, set}
 use lib.Seq.{take-suc-set, getD-take}
 use Rattle.lists.specs.Lists.{turns}
 use Rattle.sha256.specs.Sha256.{word, schedule}

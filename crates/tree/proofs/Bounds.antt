@@ -2,7 +2,7 @@
 use mathlib.Core.Path.{_≡_, sym, ap, _∙_}
 use mathlib.Core.Logic.{⊎-elim}
 use Prim.Native.Nat.{ℕ, suc, _+_, _-_, _*_, _/_, _%_, _^_, _<_, _≤_}
-use native.Mathlib.Nat.{pow-suc, add-mul, mul-assoc, mul-one, le-trans, mul-le-mul-left, mul-le-mul-right, div-lt-iff-lt-mul, eq-zero-or-pos}
+use native.Mathlib.Nat.{pow-suc, add-mul, mul-assoc, mul-one, mul-le-mul-left, mul-le-mul-right, div-lt-iff-lt-mul, eq-zero-or-pos}
 use native.Mathlib.Omega.{arith}
 use lib.Pow.{pow-pos, pow-add, pow-mono}
 use Rattle.rfc8391.specs.Xmss.{sibling}

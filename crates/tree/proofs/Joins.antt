@@ -1,18 +1,18 @@
 -- Joins, leaves and roots from what the calls give.
-use mathlib.Core.Path.{_≡_, refl, sym, ap, ap₂, _∙_}
+use mathlib.Core.Path.{_≡_, sym, ap, ap₂, _∙_}
 use mathlib.Core.List.{List, [], _++_}
 use Prim.Native.Nat.{ℕ, _+_, _-_, _*_, _<_, _≤_}
 use native.Mathlib.Nat.{zero-add}
 use native.Mathlib.Omega.{arith}
 use lib.ListN.{length, getD, take, drop, length-drop}
 use lib.Seq.{take-all, drop-drop}
-use Rattle.lists.specs.Lists.{tab, parts}
+use Rattle.lists.specs.Lists.{parts}
 use Rattle.lists.proofs.Tabs.{tab-ext, getD-tab}
 use Rattle.rfc8391.specs.Suite.{Suite, xor}
-use Rattle.rfc8391.specs.Address.{setChainAddress, setKeyAndMask, addressBytes}
+use Rattle.rfc8391.specs.Address.{setKeyAndMask, addressBytes}
 use Rattle.rfc8391.specs.Wots.{prfAt, wotsPk}
 use Rattle.rfc8391.specs.Xmss.{otsAt, ltreeAt, randHash, ltree, leafOf}
-use Rattle.rfc8391.specs.House.{secretValue, secrets}
+use Rattle.rfc8391.specs.House.{secrets}
 use Rattle.rfc8391.specs.declared.Address.{Address}
 use Rattle.rfc8391.proofs.Chains.{pk-ext}
 use Rattle.keyed.specs.Seeds.{suiteOf}

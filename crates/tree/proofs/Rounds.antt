@@ -1,11 +1,11 @@
 -- A round of the L-tree in place, and seven of them.
-use mathlib.Core.Path.{_≡_, refl, sym, ap, ap₂, _∙_}
+use mathlib.Core.Path.{_≡_, sym, ap, _∙_}
 use mathlib.Core.List.{List, []}
 use Prim.Native.Nat.{ℕ, _+_, _-_, _*_, _/_, _%_, _<_, _≤_}
 use native.Mathlib.Omega.{arith}
 use lib.ListN.{length, getD, take, set}
 use lib.Seq.{length-take-le, getD-take}
-use Rattle.lists.specs.Lists.{tab, turns}
+use Rattle.lists.specs.Lists.{turns}
 use Rattle.lists.specs.Loops.{Replacing}
 use Rattle.lists.proofs.Replacing.{replacing-more, replacing-read}
 use Rattle.rfc8391.specs.Suite.{Suite}

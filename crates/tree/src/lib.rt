@@ -1,11 +1,10 @@
 // The trees of RFC 8391: L-tree, leaf, node, path, and the root from a signature.
 // Uses onetime; the operations use it.
 ghost use mathlib.Core.Path.{_≡_};
-ghost use mathlib.Core.List.{[], _++_};
 ghost use Prim.Native.Nat.{_+_, _*_, _/_, _%_, _^_, _<_, _≤_};
-ghost use lib.ListN.{length, getD, take, drop};
+ghost use lib.ListN.{length, take};
 ghost use Rattle.lists.specs.Lists.{flat, parts};
-ghost use Rattle.rfc8391.specs.Xmss.{otsAt, ltreeAt, treeAt, sibling, randHash, ltreeRound, ltree, node, authPath, climb, rootFromPath, rootFromSig};
+ghost use Rattle.rfc8391.specs.Xmss.{treeAt, sibling, randHash, ltreeRound, ltree, node, authPath, climb, rootFromPath, rootFromSig};
 ghost use Rattle.keyed.specs.Seeds.{suiteOf, Prepared};
 ghost use Rattle.tree.specs.Keys.{leafAt};
 use keyed::Seed;
