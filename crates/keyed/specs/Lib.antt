@@ -1,4 +1,4 @@
--- The definitions that the contracts of `keyed` cite, and that its suite gives values.
+-- The definitions that the contracts of `keyed` cite; Values has what a suite must show of its functions.
 pub mod Keyed
 pub mod Values
 pub mod Sha2

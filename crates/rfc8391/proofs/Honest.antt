@@ -48,7 +48,7 @@ module _ (S : Suite) where
         ∙ path-leads-to-root S seed a (leafOf S seed a sk) h i q
 
     -- and so an honest signature of any message verifies
-    pub honest-verifies : (t h i : ℕ) (prf m : List ℕ) → i < 2 ^ h
-        → verify S a h (publicKeyOf S seed t a sk h) m (signatureOf S seed a sk prf h i m)
+    pub honest-verifies : (t h i : ℕ) (skPrf m : List ℕ) → i < 2 ^ h
+        → verify S a h (publicKeyOf S seed t a sk h) m (signatureOf S seed a sk skPrf h i m)
     unfolding verify publicKeyOf signatureOf
-    honest-verifies t h i prf m q = honest-root h i _ q
+    honest-verifies t h i skPrf m q = honest-root h i _ q

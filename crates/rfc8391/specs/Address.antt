@@ -1,4 +1,4 @@
--- Addresses, RFC 8391, section 2.5: eight words of 4 bytes. Each is set by its name there.
+-- Addresses, RFC 8391, section 2.5: eight words of 4 bytes. Type and the words after it are set by their names there.
 use mathlib.Core.List.{List, _++_}
 use Prim.Native.Nat.{ℕ}
 use Rattle.lists.specs.Bytes.{toByte}
@@ -27,7 +27,7 @@ setChainAddress = setW5
 abbrev pub setHashAddress : Address → ℕ → Address
 setHashAddress = setW6
 
--- of an L-tree address, type 1, and of a tree address, type 2
+-- of an L-tree address, type 1; the last two also of a tree address, type 2
 abbrev pub setLTreeAddress : Address → ℕ → Address
 setLTreeAddress = setW4
 

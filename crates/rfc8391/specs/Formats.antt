@@ -55,7 +55,7 @@ keyType t =
 abbrev pub singleTree : Address
 singleTree = record { layer = 0; treehigh = 0; treelow = 0; kind = 0; w4 = 0; w5 = 0; w6 = 0; w7 = 0 }
 
--- the bytes of a key, a message and a signature that RFC 8391 accepts, at the height of the key's type
+-- the bytes of a key, a message and a signature that RFC 8391 accepts, at the height and the suite S of the key's type
 pub record Accepts (S : Suite) (key m sig : List ℕ) : Type 0 where
   pub height : ℕ
   pub key-length : length key ≡ keyLength (S .n)

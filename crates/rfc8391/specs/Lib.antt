@@ -1,4 +1,4 @@
--- The definitions of `rfc8391`, in the order of RFC 8391. All of them are over a hash suite.
+-- The definitions of `rfc8391`: what hashes is over a hash suite.
 pub mod Suite
 pub mod Address
 pub mod Wots

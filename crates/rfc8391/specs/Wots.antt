@@ -1,4 +1,4 @@
--- The one-time scheme WOTS+ of RFC 8391, section 3, at w = 16, over any suite.
+-- The one-time scheme WOTS+ of RFC 8391, section 3, at w = 16, over any suite with values of 9 to 136 bytes: there len_2 is 3.
 use mathlib.Core.List.{List, [], _∷_, _++_}
 use Prim.Native.Nat.{ℕ, _+_, _-_, _*_, _/_, _%_, _^_}
 use lib.ListN.{getD}
@@ -38,7 +38,7 @@ module _ (S : Suite) where
   prfAt seed a = S .PRF seed (addressBytes a)
 
   module _ (seed : List ℕ) where
-    -- 3.1.2, Algorithm 2: one step of a chain, at position j; and s steps from position i on
+    -- 3.1.2, Algorithm 2: one step of a chain, at position j; and s steps from position i on, where i + s is at most 15
     unfoldable pub step : Address → ℕ → List ℕ → List ℕ
     step a j x =
         S .F (prfAt seed (setKeyAndMask (setHashAddress a j) 0)) (xor (S .n) x (prfAt seed (setKeyAndMask (setHashAddress a j) 1)))

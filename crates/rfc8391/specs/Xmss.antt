@@ -34,12 +34,15 @@ ltreeAt a i = setLTreeAddress (setType a 1) i
 abbrev pub treeAt : Address → ℕ → ℕ → Address
 treeAt a k p = setTreeIndex (setTreeHeight (setType a 2) k) p
 
--- 4.1.9: the position of a node's sibling
+-- 4.1.9: the position of a node's sibling, and that of the path's node at height k: the sibling of leaf i's ancestor
 unfoldable pub sibling : ℕ → ℕ
 sibling p = bitXor p 1
 
+abbrev pub pathPosition : ℕ → ℕ → ℕ
+pathPosition i k = sibling (i / 2 ^ k)
+
 module _ (S : Suite) where
-  -- 4.1.8: the value that is signed for a message: of r, the root, the index and the message
+  -- 4.1.9 and 4.1.10: the value that is signed for a message: of r, the root, the index and the message
   unfoldable pub messageDigest : List ℕ → List ℕ → ℕ → List ℕ → List ℕ
   messageDigest r root idx m = S .Hmsg (r ++ (root ++ toByte idx (S .n))) m
 
@@ -60,18 +63,21 @@ module _ (S : Suite) where
     unfoldable pub ltreeRound : Address → ℕ → List (List ℕ) → List (List ℕ)
     ltreeRound a h l = tab ((length l + 1) / 2) (ltreeNode a h l)
 
-    -- and rounds until one value is left: a round leaves a single value as it is, so that as many rounds as values are enough
+    -- k rounds; and rounds until one value is left: a round leaves a single value as it is, so that as many rounds as values are enough
+    abbrev pub ltreeRounds : Address → ℕ → List (List ℕ) → List (List ℕ)
+    ltreeRounds a k l = turns k (λ h v. ltreeRound a h v) l
+
     unfoldable pub ltree : Address → List (List ℕ) → List ℕ
-    ltree a l = getD (turns (length l) (λ h v. ltreeRound a h v) l) 0 []
+    ltree a l = getD (ltreeRounds a (length l) l) 0 []
 
     -- 4.1.6: the node of height k at position p over the leaves, which Algorithm 9 computes with a stack
     unfoldable pub node : Address → (ℕ → List ℕ) → ℕ → ℕ → List ℕ
     node a leaf zero p = leaf p
     node a leaf (suc k) p = randHash (treeAt a k p) (node a leaf k (2 * p)) (node a leaf k (2 * p + 1))
 
-    -- 4.1.9: the authentication path of leaf i: at each height the sibling of the leaf's ancestor
+    -- 4.1.9: the authentication path of leaf i, from the leaf up
     unfoldable pub authPath : Address → (ℕ → List ℕ) → ℕ → ℕ → List (List ℕ)
-    authPath a leaf h i = tab h (λ k. node a leaf k (sibling (i / 2 ^ k)))
+    authPath a leaf h i = tab h (λ k. node a leaf k (pathPosition i k))
 
     -- 4.1.10, Algorithm 13: from a node v of height k at position p to the one above, by its sibling x; and from leaf i to the root
     unfoldable pub climb : Address → ℕ → ℕ → List ℕ → List ℕ → List ℕ
@@ -96,13 +102,13 @@ module _ (S : Suite) where
     unfoldable pub publicKeyOf : ℕ → Address → (ℕ → ℕ → List ℕ) → ℕ → PublicKey
     publicKeyOf t a sk h = record { type = t; root = rootOf a sk h; seed = seed }
 
-    -- 4.1.9, Algorithms 11 and 12: the signature of a message by leaf i, with r of the message key
+    -- 4.1.9, Algorithms 11 and 12: the signature of a message by leaf i, with r of the message key skPrf
     unfoldable pub signatureOf : Address → (ℕ → ℕ → List ℕ) → List ℕ → ℕ → ℕ → List ℕ → Signature
-    signatureOf a sk prf h i m =
+    signatureOf a sk skPrf h i m =
         record {
           idx = i;
-          r = S .PRF prf (toByte i 32);
-          values = wotsSign S seed (otsAt a i) (messageDigest (S .PRF prf (toByte i 32)) (rootOf a sk h) i m) (sk i);
+          r = S .PRF skPrf (toByte i 32);
+          values = wotsSign S seed (otsAt a i) (messageDigest (S .PRF skPrf (toByte i 32)) (rootOf a sk h) i m) (sk i);
           auth = authPath a (leafOf a sk) h i;
         }
 

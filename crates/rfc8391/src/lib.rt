@@ -10,7 +10,7 @@ ghost use Rattle.rfc8391.specs.Address.{setType, setOTSAddress, setChain
 ghost use Rattle.rfc8391.specs.Xmss.{otsAt, ltreeAt, treeAt};
 ghost use Rattle.rfc8391.specs.Formats.{keyType, singleTree};
 
-// Eight words. What the last four mean is the type's to say, so that they have two names each below.
+// Eight words. What w4, w5 and w6 mean is the type's to say, so that they have two names each below.
 pub struct Address {
     pub layer: u32,
     pub treehigh: u32,

@@ -77,7 +77,7 @@ H₀ =
       h = 0x5be0_cd19;
     }
 
--- 6.2.2, step 1: the message schedule's word t, from the t words w before it; and the schedule of a block, by 48 words more
+-- 6.2.2, step 1: the message schedule's word t, from the t words w before it; and a block's words m with n words more, which are 48 in all
 unfoldable pub word : List ℕ → ℕ → ℕ
 word w t = plus (plus (plus (σ₁ (getD w (t - 2) 0)) (getD w (t - 7) 0)) (σ₀ (getD w (t - 15) 0))) (getD w (t - 16) 0)
 

@@ -1,6 +1,6 @@
 // SHA-256 of FIPS 180-4: whole messages, and a hash that is taken up after whole blocks (a midstate).
 // Uses lists; keyed hashing uses it.
-// Every contract is an equation to specs/Sha256.antt, which keeps the document's names and order.
+// Every public contract is an equation to specs/, which keeps the document's names and order.
 ghost use mathlib.Core.Path.{_≡_};
 ghost use mathlib.Core.List.{_∷_, _++_};
 ghost use Prim.Native.Nat.{_+_, _-_, _*_, _/_, _%_, _^_, _<_, _≤_};
@@ -411,7 +411,7 @@ fn half_padding(before: u32) -> [u8; 32]
     ]
 }
 
-// What finish gives where half a block is left: chains and addresses end so, and it takes one block and no copying.
+// What finish gives where half a block is left, as chain steps and addresses end: with its padding it is one block.
 pub fn finish_half(s: State, before: u32, m: [u8; 32]) -> [u8; 32]
     ensures { λ r. ⌜ r ≡ finished s before m ⌝ }
 {

@@ -7,6 +7,6 @@ use Rattle.rfc8391.specs.declared.Address.{Address}
 use Rattle.keyed.specs.Seeds.{suiteOf}
 use Rattle.keyed.specs.declared.Seed.{Seed}
 
--- leaf i of the key with the secret seed sk and the public seed s, at the address a
+-- leaf i of the key with the secret seed skSeed and the public seed s, at the address a
 unfoldable pub leafAt : List ℕ → Seed → Address → ℕ → List ℕ
-leafAt sk s a = leafOf (suiteOf s) (s .bytes) a (secrets (suiteOf s) sk (s .bytes) a)
+leafAt skSeed s a = leafOf (suiteOf s) (s .bytes) a (secrets (suiteOf s) skSeed (s .bytes) a)
