@@ -2,7 +2,7 @@
 .DEFAULT_GOAL := help
 SHELL := bash
 .SHELLFLAGS := -euo pipefail -c
-.PHONY: help run test bench fmt vectors clean
+.PHONY: help run test bench fmt vectors cases clean
 
 help: ## this list
 	@sed -n 's/^\([a-z]*\):.*## /  make \1	/p' $(MAKEFILE_LIST) | expand -t 16
@@ -16,7 +16,7 @@ run: ## make three whole keys, sign with each, compare with the independent prog
 test: ## the gate: every proof from nothing, must-fail edits, programs, tests outside Rattle
 	@.ci/run
 
-bench: ## SHA-256, a leaf and a whole key beside plain C, in one run
+bench: ## SHA-256, a leaf, a whole key and a check beside plain C, and checks beside Botan and Bouncy Castle
 	@bench/run
 
 fmt: ## lay out every .rt and .antt file
@@ -25,6 +25,9 @@ fmt: ## lay out every .rt and .antt file
 vectors: ## write crates/vectors/stdin and stdout anew from Debian's package
 	@tests/setup
 	@tests/make-vectors crates/vectors
+
+cases: ## write the stored cases of checking and the example anew from the independent program
+	@tests/make-cases
 
 clean: ## remove what was built
 	@rm -rf target

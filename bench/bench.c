@@ -1,4 +1,5 @@
 // Times the proved code beside plain C in one run. Prints a line each: what, ns of ours, ns of plain C's blocks for the same work.
+// Checking comes first, in checks.c: it reads its signatures from standard input.
 //
 // Runs of the two alternate, and the least of many runs counts.
 #include <stdio.h>
@@ -12,7 +13,7 @@ enum { LEAF = 67 * 15 * 4 + 66 * 6 + 3 + 67, ROOT = 1024 * LEAF + 1023 * 6 + 1 }
 
 static uint8_t message[65536], secret[32], public_seed[32], ours[32], plain[32];
 
-static double seconds(void) {
+double seconds(void) {
     struct timespec t;
     clock_gettime(CLOCK_MONOTONIC, &t);
     return t.tv_sec + t.tv_nsec * 1e-9;
@@ -23,7 +24,7 @@ static void leaf(void) { zab_probe_leaf(secret, public_seed, 5, ours); }
 static void root(void) { zab_probe_root(secret, public_seed, ours); }
 
 // So many compressions in plain C: those of the whole message again and again, and of a part of it at the end.
-static void plain_work(long compressions) {
+void plain_work(long compressions) {
     for (long most = sizeof message / 64 + 1; compressions > 0; compressions -= most)
         plain_sha256(message, 64 * ((compressions < most ? compressions : most) - 1), plain);
 }
@@ -53,6 +54,7 @@ int main(void) {
         fputs("bench: the two hashes differ\n", stderr);
         return 1;
     }
+    if (!compare_checks()) return 1;
     compare("block", block, sizeof message / 64 + 1, 2000);
     compare("leaf", leaf, LEAF, 500);
     compare("root", root, ROOT, 6);

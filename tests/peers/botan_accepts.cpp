@@ -1,16 +1,11 @@
 // Botan, which knows nothing of us, checks the signatures that the program whole_keys wrote, and each with one bit changed.
 // Reads the program's output on standard input; the public seeds and messages are those of tests/reference/whole_keys.py.
-#include <botan/der_enc.h>
-#include <botan/hex.h>
-#include <botan/pubkey.h>
-#include <botan/xmss.h>
+#include "botan_xmss.h"
 
-#include <cstdint>
+#include <botan/hex.h>
+
 #include <iostream>
 #include <string>
-#include <vector>
-
-using Bytes = std::vector<std::uint8_t>;
 
 static const std::string messages[] = {
     "",
@@ -29,15 +24,7 @@ static Bytes public_key(std::size_t number, const Bytes& root) {
     Bytes key{0, 0, 0, 1};
     key.insert(key.end(), root.begin(), root.end());
     for (std::size_t i = 0; i < 32; i++) key.push_back(static_cast<std::uint8_t>(3 * number + 2 + 7 * i));
-    Bytes encoded;
-    Botan::DER_Encoder(encoded).encode(key, Botan::OCTET_STRING);
-    return encoded;
-}
-
-static bool accepted(const Bytes& key, const std::string& message, const Bytes& signature) {
-    const Botan::XMSS_PublicKey loaded(key);
-    Botan::PK_Verifier verifier(loaded, "SHA2_10_256");
-    return verifier.verify_message(Bytes(message.begin(), message.end()), signature);
+    return key;
 }
 
 int main() {
@@ -47,9 +34,10 @@ int main() {
         Bytes signature = bytes_of_line();
         bytes_of_line();
         const Bytes key = public_key(number, root);
-        const bool whole = accepted(key, messages[number], signature);
+        const Bytes message(messages[number].begin(), messages[number].end());
+        const bool whole = accepted(key, message, signature);
         signature.back() ^= 1;
-        const bool damaged = accepted(key, messages[number], signature);
+        const bool damaged = accepted(key, message, signature);
         std::cout << "key " << number << ": signature " << (whole ? "accepted" : "REFUSED") << ", damaged "
                   << (damaged ? "ACCEPTED" : "refused") << '\n';
         good = good && whole && !damaged;

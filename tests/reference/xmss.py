@@ -93,6 +93,11 @@ def secret_value(secret_seed, leaf, number):
     return PRF(PRF(secret_seed, to_byte(leaf, 32)), to_byte(number, 32))
 
 
+def one_time_signature(digest, secret_seed, seed, at, leaf):
+    """Algorithm 5."""
+    return [chain(secret_value(secret_seed, leaf, c), 0, d, seed, at, leaf, c) for c, d in enumerate(digits(digest))]
+
+
 def leaf_of(secret_seed, seed, at, leaf):
     return ltree([chain(secret_value(secret_seed, leaf, c), 0, W - 1, seed, at, leaf, c) for c in range(LEN)], seed, at, leaf)
 
@@ -125,7 +130,7 @@ class Key:
         """Algorithms 11 and 12."""
         r = PRF(self.message_key, to_byte(index, 32))
         digest = H_msg(r + self.root + to_byte(index, N), message)
-        values = [chain(secret_value(self.secret_seed, index, c), 0, d, self.seed, self.at, index, c) for c, d in enumerate(digits(digest))]
+        values = one_time_signature(digest, self.secret_seed, self.seed, self.at, index)
         path = [self.rows[k][(index >> k) ^ 1] for k in range(self.height)]
         return to_byte(index, 4) + r + b"".join(values) + b"".join(path)
 
@@ -144,11 +149,16 @@ def parts(data):
     return [data[i:i + N] for i in range(0, len(data), N)]
 
 
-def verify(key, message, signature):
-    """Algorithm 14, of a key of 68 bytes with a known type and a signature of that type's length."""
+def recomputed_root(key, message, signature):
+    """What Algorithm 14 compares with the key's root, of a key of 68 bytes with a known type and a signature of that type's length."""
     height = HEIGHTS[int.from_bytes(key[:4], "big")]
     root, seed = key[4:36], key[36:]
     index, r = int.from_bytes(signature[:4], "big"), signature[4:36]
     digest = H_msg(r + root + to_byte(index, N), message)
     start = 36 + LEN * N
-    return root_from_signature(height, index, parts(signature[36:start]), parts(signature[start:]), digest, seed, Address()) == root
+    return root_from_signature(height, index, parts(signature[36:start]), parts(signature[start:]), digest, seed, Address())
+
+
+def verify(key, message, signature):
+    """Algorithm 14."""
+    return recomputed_root(key, message, signature) == key[4:36]

@@ -3,7 +3,9 @@
 // Uses nothing; every other crate stands on it.
 ghost use mathlib.Core.Path.{_≡_};
 ghost use mathlib.Core.List.{_++_};
-ghost use Rattle.lists.specs.Bytes.{toByte};
+ghost use Prim.Native.Nat.{_+_, _<_, _≤_};
+ghost use lib.ListN.{length};
+ghost use Rattle.lists.specs.Bytes.{toByte, number};
 
 // Eight words in 32 bytes: a digest, and an address.
 pub fn eight_words(a: u32, b: u32, c: u32, d: u32, e: u32, f: u32, g: u32, h: u32) -> [u8; 32]
@@ -43,4 +45,22 @@ pub fn eight_words(a: u32, b: u32, c: u32, d: u32, e: u32, f: u32, g: u32, h: u3
         (h / 0x100 % 256) as u8,
         (h / 1 % 256) as u8,
     ]
+}
+
+fn wide(x: u8) -> u32
+    ensures { λ r. ⌜ (r ≡ x) × (r < 256) ⌝ }
+{
+    x as u32
+}
+
+// The number in the four bytes of m from place at on: a word of a block, a key type, an index.
+pub fn big_endian(m: &[u8], at: usize) -> u32
+    requires { ⌜ at + 4 ≤ length (now m) ⌝ }
+    ensures { λ r. ⌜ r ≡ number (now (m .entry)) at 4 ⌝ }
+{
+    let p = wide(m[at]);
+    let q = wide(m[at + 1]);
+    let r = wide(m[at + 2]);
+    let s = wide(m[at + 3]);
+    p * 0x100_0000 + q * 0x1_0000 + r * 0x100 + s
 }

@@ -1,4 +1,4 @@
-// What the benchmarks call: inner layers, exported on byte slices.
+// What the benchmarks call: inner layers and checking, exported on byte slices.
 // Uses the layers that it shows; bench/ links it, and no other crate uses it.
 ghost use mathlib.Core.Path.{_≡_};
 ghost use Rattle.sha256.specs.Sha256.{sha256};
@@ -6,6 +6,7 @@ ghost use Rattle.keyed.specs.Sha2.{sha2};
 ghost use Rattle.rfc8391.specs.House.{secrets};
 ghost use Rattle.rfc8391.specs.Xmss.{leafOf, rootOf};
 ghost use Rattle.rfc8391.specs.Formats.{singleTree};
+ghost use Rattle.operations.specs.Check.{checkOf};
 use rfc8391::Address;
 
 #[no_mangle]
@@ -35,4 +36,11 @@ pub extern "C" fn zab_probe_root(secret: &[u8; 32], public: &[u8; 32], out: &mut
         10,
         0,
     );
+}
+
+#[no_mangle]
+pub extern "C" fn zab_probe_check(key: &[u8], message: &[u8], signature: &[u8]) -> u32
+    ensures { λ r. ⌜ r ≡ checkOf (now (key .entry)) (now (message .entry)) (now (signature .entry)) .outcome ⌝ }
+{
+    operations::check(key, message, signature).outcome
 }

@@ -7,7 +7,7 @@ ghost use Prim.Native.Nat.{_+_, _-_, _*_, _/_, _%_, _^_, _<_, _≤_};
 ghost use lib.ListN.{length, getD, take, replicate};
 ghost use lib.Seq.{paste};
 ghost use Rattle.lists.specs.Lists.{turns};
-ghost use Rattle.lists.specs.Bytes.{toByte, number};
+ghost use Rattle.lists.specs.Bytes.{toByte};
 ghost use Rattle.sha256.specs.Sha256.{plus, Ch, Maj, Σ₀, Σ₁, σ₀, σ₁, padding, block, H₀, schedule, round, rounds, added, compressed, hashed, digest, sha256};
 ghost use Rattle.sha256.specs.Midstate.{finished};
 use std::num::wrapping_add_u32;
@@ -136,23 +136,6 @@ fn small_sigma1(x: u32) -> u32
     ((x >> 17) | (x << 15)) ^ ((x >> 19) | (x << 13)) ^ (x >> 10)
 }
 
-fn wide(x: u8) -> u32
-    ensures { λ r. ⌜ (r ≡ x) × (r < 256) ⌝ }
-{
-    x as u32
-}
-
-fn big_endian(m: &[u8], at: usize) -> u32
-    requires { ⌜ at + 4 ≤ length (now m) ⌝ }
-    ensures { λ r. ⌜ r ≡ number (now (m .entry)) at 4 ⌝ }
-{
-    let p = wide(m[at]);
-    let q = wide(m[at + 1]);
-    let r = wide(m[at + 2]);
-    let s = wide(m[at + 3]);
-    p * 0x100_0000 + q * 0x1_0000 + r * 0x100 + s
-}
-
 fn block_at(m: &[u8], i: usize) -> [u32; 16]
     requires { ⌜ 64 * i + 64 ≤ length (now m) ⌝ }
     ensures { λ r. ⌜ r ≡ block i (now (m .entry)) ⌝ }
@@ -160,7 +143,7 @@ fn block_at(m: &[u8], i: usize) -> [u32; 16]
     let mut w = [0u32; 16];
     let mut j = 0;
     while j < 16 {
-        w[j] = big_endian(m, 64 * i + 4 * j);
+        w[j] = lists::big_endian(m, 64 * i + 4 * j);
         j += 1;
     }
     w

@@ -2,9 +2,9 @@
 use native.Mathlib.Nat.{add-zero}
 use native.Mathlib.Omega.{arith}
 use borrow.Author.Needs.{needs}
 use Rattle.lists.specs.Bytes.{number}
-use Rattle.sha256.proofs.big_endian.Statement.{statement}
-use Rattle.sha256.proofs.big_endian.Tie as tie
+use Rattle.lists.proofs.big_endian.Statement.{statement}
+use Rattle.lists.proofs.big_endian.Tie as tie
 
 shared-slice-read-wide : tie.Need-shared-slice-read-wide
 shared-slice-read-wide c = search needs

@@ -1,0 +1,3 @@
+-- The laws of the operations.
+pub mod Types
+pub mod Checks

@@ -1,0 +1,4 @@
+-- What the operations answer.
+pub mod Decisions
+pub mod Check
+pub mod Recomputed

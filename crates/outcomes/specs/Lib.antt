@@ -1,0 +1,3 @@
+-- The definitions of `outcomes`.
+pub mod Conditions
+pub mod Outcome

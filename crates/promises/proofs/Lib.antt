@@ -1,0 +1,2 @@
+-- The laws behind the promises.
+pub mod Checking

@@ -1,0 +1,57 @@
+-- What is promised of checking. Sizes and limits are those of the customer's paper; the rest is RFC 8391's.
+use mathlib.Core.Path.{_≡_}
+use mathlib.Core.List.{List}
+use mathlib.Core.Logic.{_↔_}
+use Prim.Native.Nat.{ℕ, _+_, _*_, _^_, _<_, _≤_}
+use lib.ListN.{length}
+use Rattle.lists.specs.Bytes.{number}
+use Rattle.rfc8391.specs.Suite.{Suite}
+use Rattle.rfc8391.specs.Xmss.{messageDigest, rootFromSig}
+use Rattle.rfc8391.specs.Formats.{keyFrom, signatureFrom, singleTree, Accepts}
+use Rattle.rfc8391.specs.declared.KeyType.the-variants.{Unknown}
+use Rattle.operations.specs.Check.{typeOf, heightOf}
+
+-- over the suite of the key's type, whose values have 32 bytes
+module _ (S : Suite) (key m sig : List ℕ) where
+  -- the height h of the key's type
+  abbrev h : ℕ
+  h = heightOf (typeOf key)
+
+  abbrev pub KeyFits : Type 0
+  KeyFits = length key ≡ 68
+
+  abbrev pub TypeUnknown : Type 0
+  TypeUnknown = typeOf key ≡ Unknown
+
+  abbrev pub SignatureFits : Type 0
+  SignatureFits = length sig ≡ 36 + (67 + h) * 32
+
+  abbrev pub MessageFits : Type 0
+  MessageFits = length m ≤ 65536
+
+  abbrev pub IndexFits : Type 0
+  IndexFits = number sig 0 4 < 2 ^ h
+
+  -- Algorithm 13: the root recomputed from the signature is the key's, byte by byte
+  abbrev pub RootAgrees : Type 0
+  RootAgrees =
+      rootFromSig S (keyFrom 32 key .seed) singleTree h (signatureFrom 32 h sig .idx) (signatureFrom 32 h sig .values)
+      (signatureFrom 32 h sig .auth)
+      (messageDigest S (signatureFrom 32 h sig .r) (keyFrom 32 key .root) (signatureFrom 32 h sig .idx) m)
+      ≡ keyFrom 32 key .root
+
+  -- each number exactly when its condition holds and none earlier does
+  pub record Numbers (outcome : ℕ) : Type 0 where
+    pub one : (outcome ≡ 1) ↔ (KeyFits → ⊥)
+    pub two : (outcome ≡ 2) ↔ (KeyFits × TypeUnknown)
+    pub three : (outcome ≡ 3) ↔ (KeyFits × (TypeUnknown → ⊥) × (SignatureFits → ⊥))
+    pub four : (outcome ≡ 4) ↔ (KeyFits × (TypeUnknown → ⊥) × SignatureFits × (MessageFits → ⊥))
+    pub five : (outcome ≡ 5) ↔ (KeyFits × (TypeUnknown → ⊥) × SignatureFits × MessageFits × (IndexFits → ⊥))
+    pub six : (outcome ≡ 6) ↔ (KeyFits × (TypeUnknown → ⊥) × SignatureFits × MessageFits × IndexFits × (RootAgrees → ⊥))
+    pub none-other : outcome ≤ 6
+
+  -- what RFC 8391 accepts, inside the two limits that are ours
+  pub record Accepted : Type 0 where
+    pub accepts : Accepts S key m sig
+    pub message : length m ≤ 65536
+    pub index : number sig 0 4 < 2 ^ accepts .height

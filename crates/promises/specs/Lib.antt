@@ -1,0 +1,2 @@
+-- What is promised, in the customer's words.
+pub mod Checking

@@ -1,0 +1,2 @@
+-- Why each sham breaks a promise.
+pub mod Checks

@@ -1,0 +1,25 @@
+// Wrong operations that the promises shut out, each by a theorem: no program that behaves like that could be proved.
+// Uses the promises; no other crate uses it.
+// Each must-fail edit puts the honest way in a sham's place: the theorem then says something false, and its proof is refused.
+ghost use mathlib.Core.Path.{_≡_};
+ghost use Prim.Native.Nat.{ℕ};
+ghost use Rattle.rfc8391.specs.Suite.{Suite};
+ghost use Rattle.shams.specs.Toy.{toy};
+ghost use Rattle.shams.specs.Checks.{Kept, honest, fixed, refusing, oneChain};
+
+// That the promises can be kept: the honest way keeps them, over any suite with values of 32 bytes.
+pub fn the_honest_check_keeps_the_promises()
+    ensures { λ _. ⌜ ((S : Suite) → S .n ≡ 32 → Kept S (honest S)) ⌝ }
+{}
+
+pub fn a_fixed_outcome_breaks_a_promise()
+    ensures { λ _. ⌜ ((S : Suite) (outcome : ℕ) → Kept S (fixed S outcome) → ⊥) ⌝ }
+{}
+
+pub fn refusing_everything_breaks_a_promise()
+    ensures { λ _. ⌜ (Kept toy (refusing toy) → ⊥) ⌝ }
+{}
+
+pub fn checking_one_chain_breaks_a_promise()
+    ensures { λ _. ⌜ (Kept toy (oneChain toy) → ⊥) ⌝ }
+{}
