@@ -7,11 +7,14 @@ SHELL := bash
 help: ## this list
 	@sed -n 's/^\([a-z]*\):.*## /  make \1	/p' $(MAKEFILE_LIST) | expand -t 16
 
-run: ## make three whole keys, sign with each, compare with the independent program
-	@rt check whole_keys | tail -n 1
-	@target/bin/whole_keys
-	@PYTHONDONTWRITEBYTECODE=1 python3 tests/reference/whole_keys.py | cmp - crates/whole_keys/stdout
-	@echo "an independent program computed the same bytes"
+FRAMES ?= examples/yard.frames
+
+run: ## check the frames of FRAMES=file, or of examples/yard.frames: line number and outcome (README.md says what they mean)
+	@test -r '$(FRAMES)' || { echo "make run: can't read $(FRAMES)" >&2; exit 1; }
+	@mkdir -p target
+	@echo "building the program; the first time its proofs take some minutes" >&2
+	@rt check check_frames >target/run.log 2>&1 || { cat target/run.log; exit 1; }
+	@target/bin/check_frames <'$(FRAMES)'
 
 test: ## the gate: every proof from nothing, must-fail edits, programs, tests outside Rattle
 	@.ci/run

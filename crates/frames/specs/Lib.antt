@@ -1,0 +1,3 @@
+-- The definitions of `frames`.
+pub mod Frames
+pub mod Buffers

@@ -1,0 +1,7 @@
+-- The laws of `lines`.
+pub mod Runs
+pub mod Contents
+pub mod Answers
+pub mod Puts
+pub mod Decimals
+pub mod Buffers
