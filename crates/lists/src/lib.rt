@@ -64,3 +64,14 @@ pub fn big_endian(m: &[u8], at: usize) -> u32
     let s = wide(m[at + 3]);
     p * 0x100_0000 + q * 0x1_0000 + r * 0x100 + s
 }
+
+// The four bytes of a number into a lent part.
+pub fn write_number(out: &mut [u8], x: u32)
+    requires { ⌜ length (now out) ≡ 4 ⌝ }
+    ensures { λ _. ⌜ now (out .exit) ≡ toByte x 4 ⌝ }
+{
+    out[0] = (x / 0x100_0000 % 256) as u8;
+    out[1] = (x / 0x1_0000 % 256) as u8;
+    out[2] = (x / 0x100 % 256) as u8;
+    out[3] = (x / 1 % 256) as u8;
+}

@@ -1,3 +1,5 @@
 -- The laws of the operations.
 pub mod Types
 pub mod Checks
+pub mod Makes
+pub mod Signs

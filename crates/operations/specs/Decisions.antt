@@ -1,4 +1,4 @@
--- That the conditions of checking can be told: what they mean is in Check.
+-- That the conditions of refusal can be told: what they mean stands where they are listed.
 use mathlib.Core.Path.{_≡_, refl, ap}
 use mathlib.Core.List.{List, List-discrete}
 use Prim.Native.Nat.{ℕ}
@@ -22,3 +22,8 @@ unknown? Unknown = yes refl
 pub verify? : (S : Suite) (a : Address) (h : ℕ) (pk : PublicKey) (m : List ℕ) (sig : Signature) → Dec (verify S a h pk m sig)
 unfolding verify
 verify? S a h pk m sig = List-discrete ℕ-discrete _ _
+
+pub both? : {A B : Type 0} → Dec A → Dec B → Dec (A × B)
+both? (yes a) (yes b) = yes (a, b)
+both? (yes a) (no n) = no (λ p. n (p .1))
+both? (no n) d = no (λ p. n (p .0))

@@ -2,3 +2,5 @@
 pub mod Decisions
 pub mod Check
 pub mod Recomputed
+pub mod Make
+pub mod Sign

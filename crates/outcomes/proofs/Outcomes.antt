@@ -1,14 +1,14 @@
 -- An outcome says exactly which condition is the first that holds: once, for every list of refusals.
-use mathlib.Core.Path.{_≡_, refl, sym, _∙_}
+use mathlib.Core.Path.{_≡_, refl, sym, ap, _∙_}
 use mathlib.Core.Bool.{Bool, true, false, not, _&&_, false≢true}
 use mathlib.Core.List.{[], _∷_}
-use mathlib.Core.Logic.{_⊎_, inl, inr, ⊎-elim}
+use mathlib.Core.Logic.{_⊎_, inl, inr, ⊎-elim, _↔_}
 use Prim.Native.Nat.{ℕ, zero, suc, _≤_}
 use native.Mathlib.Omega.{arith}
 use lib.Dec.{eqb, leb}
 use borrow.Author.Tests.{eqb-false, leb-true, not-true}
 use Rattle.outcomes.specs.Conditions.{Condition}
-use Rattle.outcomes.specs.Outcome.{Refusals, outcomeOf, decided, numberAt, First, None, Exactly}
+use Rattle.outcomes.specs.Outcome.{Refusals, outcomeOf, unless, decided, numberAt, First, None, Exactly}
 
 decided-holds : (C : Condition) (n m : ℕ) → C .Holds → decided (C .told) n m ≡ n
 decided-holds C n m h = go (C .told)
@@ -112,3 +112,22 @@ outcome-most (x ∷ l) b e = go (x .0 .told) (outcome-most l b (and-right (leb (
     go : (t : x .0 .Holds ⊎ x .0 .Fails) → outcomeOf l ≤ b → decided t (x .1) (outcomeOf l) ≤ b
     go (inl h) w = leb-true (x .1) b (and-left (leb (x .1) b) (atMost b l) e)
     go (inr f) w = w
+
+-- what an operation gives where the condition at place k is the first that holds, and where none holds
+pub unless-at : {A : Type 0} (done : A) (refused : ℕ → A) (l : Refusals) (k : ℕ) → First l k → unless (numberAt l k) done refused ≡ unless (outcomeOf l) done refused
+unless-at done refused l k f = ap (λ (o : ℕ). unless o done refused) (sym (outcome-at l k f))
+
+pub unless-none : {A : Type 0} (done : A) (refused : ℕ → A) (l : Refusals) → None l → done ≡ unless (outcomeOf l) done refused
+unless-none done refused l n = ap (λ (o : ℕ). unless o done refused) (sym (outcome-none l n))
+
+-- a number other than 0 that stands at place k alone: given exactly when the condition there is the first that holds; and 0
+pub at-place : (l : Refusals) (k n : ℕ) → (n ≡ 0 → ⊥) → only n l k ≡ true → numberAt l k ≡ n → (outcomeOf l ≡ n) ↔ First l k
+at-place l k n z u e = (outcome-back l k n z u, λ f. outcome-at l k f ∙ e)
+
+pub at-none : (l : Refusals) → absent 0 l ≡ true → (outcomeOf l ≡ 0) ↔ None l
+at-none l z = (exactly l z .clear, outcome-none l)
+
+-- the outcome of an operation whose answer carries it
+pub unless-outcome : {A : Type 0} (number : A → ℕ) (done : A) (refused : ℕ → A) (o : ℕ) → number done ≡ 0 → ((k : ℕ) → number (refused k) ≡ k) → number (unless o done refused) ≡ o
+unless-outcome number done refused zero d r = d
+unless-outcome number done refused (suc o) d r = r (suc o)

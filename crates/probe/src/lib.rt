@@ -1,4 +1,4 @@
-// What the benchmarks call: inner layers and checking, exported on byte slices.
+// What the benchmarks call: inner layers, making, signing and checking, exported on byte slices.
 // Uses the layers that it shows; bench/ links it, and no other crate uses it.
 ghost use mathlib.Core.Path.{_≡_};
 ghost use Rattle.sha256.specs.Sha256.{sha256};
@@ -7,6 +7,8 @@ ghost use Rattle.rfc8391.specs.House.{secrets};
 ghost use Rattle.rfc8391.specs.Xmss.{leafOf, rootOf};
 ghost use Rattle.rfc8391.specs.Formats.{singleTree};
 ghost use Rattle.operations.specs.Check.{checkOf};
+ghost use Rattle.operations.specs.Make.{makeOf};
+ghost use Rattle.operations.specs.Sign.{signOf};
 use rfc8391::Address;
 
 #[no_mangle]
@@ -36,6 +38,31 @@ pub extern "C" fn zab_probe_root(secret: &[u8; 32], public: &[u8; 32], out: &mut
         10,
         0,
     );
+}
+
+#[no_mangle]
+pub extern "C" fn zab_probe_make(
+    kind: u32,
+    material: &[u8],
+    secret: &mut [u8],
+    key: &mut [u8],
+) -> u32
+    ensures { λ r. ⌜ r ≡ makeOf kind (now (material .entry)) (now (secret .entry)) (now (key .entry)) .answer .outcome ⌝ }
+{
+    operations::make(kind, material, secret, key).outcome
+}
+
+#[no_mangle]
+pub extern "C" fn zab_probe_sign(
+    secret: &[u8],
+    page: &[u8],
+    session: u32,
+    message: &[u8],
+    out: &mut [u8],
+) -> u32
+    ensures { λ r. ⌜ r ≡ signOf (now (secret .entry)) (now (page .entry)) session (now (message .entry)) (now (out .entry)) .answer .outcome ⌝ }
+{
+    operations::sign(secret, page, session, message, out).outcome
 }
 
 #[no_mangle]

@@ -1,14 +1,13 @@
 -- The promises of checking hold of its list of refusals, over any suite with values of 32 bytes.
 use mathlib.Core.Path.{_≡_, refl, sym, ap, subst, _∙_}
-use mathlib.Core.Bool.{true}
 use mathlib.Core.List.{List}
 use mathlib.Core.Logic.{_↔_}
 use Prim.Native.Nat.{ℕ, _+_, _*_, _^_, _<_, _≤_}
 use native.Mathlib.Omega.{arith}
 use lib.ListN.{length}
 use Rattle.lists.specs.Bytes.{number}
-use Rattle.outcomes.specs.Outcome.{Refusals, outcomeOf, numberAt, First}
-use Rattle.outcomes.proofs.Outcomes.{outcome-at, outcome-none, outcome-back, outcome-most, only, exactly}
+use Rattle.outcomes.specs.Outcome.{outcomeOf}
+use Rattle.outcomes.proofs.Outcomes.{at-place, at-none, outcome-most}
 use Rattle.rfc8391.specs.Suite.{Suite}
 use Rattle.rfc8391.specs.Xmss.{verify}
 use Rattle.rfc8391.specs.Formats.{keyLength, keyFrom, pathStart, signatureLength, signatureFrom, singleTree}
@@ -27,10 +26,6 @@ not-under a b n = omega arith
 size : (h : ℕ) → signatureLength 32 h ≡ 36 + (67 + h) * 32
 unfolding signatureLength pathStart
 size h = omega arith
-
--- a number that stands at place k alone: given exactly when the condition there is the first that holds
-at-place : (l : Refusals) (k n : ℕ) → (n ≡ 0 → ⊥) → only n l k ≡ true → numberAt l k ≡ n → (outcomeOf l ≡ n) ↔ First l k
-at-place l k n z u e = (outcome-back l k n z u, λ f. outcome-at l k f ∙ e)
 
 pub sha2-n : sha2 .n ≡ 32
 unfolding sha2
@@ -98,7 +93,7 @@ module _ (S : Suite) (n32 : S .n ≡ 32) (key m sig : List ℕ) where
     where
       fwd : outcomeOf (checkRefusals S key m sig) ≡ 0 → Accepted S key m sig
       fwd e =
-          let n = exactly (checkRefusals S key m sig) refl .clear e in
+          let n = at-none (checkRefusals S key m sig) refl .0 e in
           record {
             accepts =
                 record {
@@ -118,5 +113,5 @@ module _ (S : Suite) (n32 : S .n ≡ 32) (key m sig : List ℕ) where
       bwd a =
           let r = a .accepts in
           let s = served-as (number key 0 4) (r .height) _ (r .key-type) in
-          outcome-none (checkRefusals S key m sig)
+          at-none (checkRefusals S key m sig) refl .1
           (r .key-length, (s .known, (rw (s .height) (r .sig-length), (a .message, (rw (s .height) (a .index), (rw (s .height) (r .valid), tt))))))

@@ -1,2 +1,5 @@
 -- What is promised, in the customer's words.
 pub mod Checking
+pub mod Making
+pub mod Signing
+pub mod Table

@@ -1,14 +1,151 @@
 // What is promised of each operation, by a call of it: the door by which a reader comes in.
-// Uses the operations; no other crate uses it.
+// Uses the operations; no other crate but the shams uses it.
 // A promise takes the operation's arguments, calls it, and ensures the customer's sentence about what came back.
 ghost use mathlib.Core.Path.{_≡_};
 ghost use mathlib.Core.Logic.{_↔_};
+ghost use Prim.Native.Nat.{_-_};
 ghost use lib.ListN.{length};
-ghost use Rattle.keyed.specs.Sha2.{sha2};
-ghost use Rattle.operations.specs.Check.{checkOf, typeOf};
 ghost use Rattle.rfc8391.specs.declared.KeyType.the-variants.{Unknown};
+ghost use Rattle.keyed.specs.Sha2.{sha2};
+ghost use Rattle.marks.specs.Page.{used};
+ghost use Rattle.marks.specs.Marking.{MarkEnd, reserveOf, markEnd, markOf};
+ghost use Rattle.marks.specs.Shown.{ReserveNumbers, MarkNumbers, OneMark, StoredByte};
+ghost use Rattle.operations.specs.Check.{checkOf, typeOf};
+ghost use Rattle.operations.specs.Make.{MakeEnd, makeEnd, makeOf};
+ghost use Rattle.operations.specs.Sign.{SignEnd, signEnd, signOf};
 ghost use Rattle.promises.specs.Checking.{Numbers, Accepted};
+ghost use Rattle.promises.specs.Making.{MakeNumbers, KeyPair};
+ghost use Rattle.promises.specs.Signing.{SignNumbers};
+ghost use Rattle.promises.specs.Table.{Table};
+use marks::Marked;
+use marks::Reserved;
 use operations::Checked;
+use operations::Made;
+use operations::Signed;
+
+// Demand 1: each number of making exactly when its condition holds and none earlier does.
+pub fn making_gives_each_number_exactly(
+    kind: u32,
+    material: &[u8],
+    secret: &mut [u8],
+    key: &mut [u8],
+) -> Made
+    ensures { λ r. ⌜ MakeNumbers kind (now (material .entry)) (now (secret .entry)) (now (key .entry)) (r .outcome) ⌝ }
+{
+    operations::make(kind, material, secret, key)
+}
+
+// Demand 1: "A refused call leaves each buffer lent to it as it found it."
+pub fn refused_making_changes_nothing(
+    kind: u32,
+    material: &[u8],
+    secret: &mut [u8],
+    key: &mut [u8],
+) -> Made
+    ensures { λ r. ⌜ ((r .outcome ≡ 0 → ⊥) → (now (secret .exit) ≡ now (secret .entry)) × (now (key .exit) ≡ now (key .entry))) ⌝ }
+{
+    operations::make(kind, material, secret, key)
+}
+
+// Demand 2: "Key pairs .. made for height 10 are, byte for byte, those of RFC 8391 with our written rule for the secret values."
+pub fn made_keys_are_those_of_rfc_8391(
+    kind: u32,
+    material: &[u8],
+    secret: &mut [u8],
+    key: &mut [u8],
+) -> Made
+    ensures { λ r. ⌜ (r .outcome ≡ 0 → KeyPair (now (material .entry)) (now (secret .exit)) (now (key .exit))) ⌝ }
+{
+    operations::make(kind, material, secret, key)
+}
+
+// The statement of making allows one answer alone, and one content of each buffer.
+pub fn making_has_one_answer(kind: u32, material: &[u8], secret: &mut [u8], key: &mut [u8]) -> Made
+    ensures { λ r. ⌜ ((e : MakeEnd) → e ≡ makeOf kind (now (material .entry)) (now (secret .entry)) (now (key .entry)) → e ≡ makeEnd r (now (secret .exit)) (now (key .exit))) ⌝ }
+{
+    operations::make(kind, material, secret, key)
+}
+
+// Demand 1: each number of reserving exactly when its condition holds and none earlier does. Nothing is written.
+pub fn reserving_gives_each_number_exactly(page: &[u8], session: u32) -> Reserved
+    ensures { λ r. ⌜ ReserveNumbers 0 1024 (now (page .entry)) session (r .outcome) ⌝ }
+{
+    marks::reserve(page, session)
+}
+
+// The byte that reserving hands out is what marking stores: a caller may store it itself, and marking then changes nothing.
+pub fn byte_handed_out_is_what_marking_stores(page: &[u8], session: u32) -> Reserved
+    ensures { λ r. ⌜ (r .outcome ≡ 0 → StoredByte (now (page .entry)) r) ⌝ }
+{
+    marks::reserve(page, session)
+}
+
+// The statement of reserving allows one answer alone.
+pub fn reserving_has_one_answer(page: &[u8], session: u32) -> Reserved
+    ensures { λ r. ⌜ ((e : Reserved) → e ≡ reserveOf 0 1024 (now (page .entry)) session → e ≡ r) ⌝ }
+{
+    marks::reserve(page, session)
+}
+
+// Demand 1: each number of marking exactly when its condition holds and none earlier does.
+pub fn marking_gives_each_number_exactly(page: &mut [u8], session: u32) -> Marked
+    ensures { λ r. ⌜ MarkNumbers (now (page .entry)) session (r .outcome) ⌝ }
+{
+    marks::mark(page, session)
+}
+
+// The marking rule: the pending mark is made used, and no other bit changes.
+pub fn marking_uses_one_mark(page: &mut [u8], session: u32) -> Marked
+    ensures { λ r. ⌜ (r .outcome ≡ 0 → used (now (page .entry)) ≡ session - 1 → OneMark (session - 1) (now (page .entry)) (now (page .exit))) ⌝ }
+{
+    marks::mark(page, session)
+}
+
+// The statement of marking allows one answer alone, and one page.
+pub fn marking_has_one_answer(page: &mut [u8], session: u32) -> Marked
+    ensures { λ r. ⌜ ((e : MarkEnd) → e ≡ markOf (now (page .entry)) session → e ≡ markEnd r (now (page .exit))) ⌝ }
+{
+    marks::mark(page, session)
+}
+
+// Demand 1: each number of signing exactly when its condition holds and none earlier does.
+pub fn signing_gives_each_number_exactly(
+    secret: &[u8],
+    page: &[u8],
+    session: u32,
+    message: &[u8],
+    out: &mut [u8],
+) -> Signed
+    ensures { λ r. ⌜ SignNumbers (now (secret .entry)) (now (page .entry)) session (now (message .entry)) (now (out .entry)) (r .outcome) ⌝ }
+{
+    operations::sign(secret, page, session, message, out)
+}
+
+// Demand 1: "A refused call leaves each buffer lent to it as it found it", and the session stays as given.
+pub fn refused_signing_changes_nothing(
+    secret: &[u8],
+    page: &[u8],
+    session: u32,
+    message: &[u8],
+    out: &mut [u8],
+) -> Signed
+    ensures { λ r. ⌜ ((r .outcome ≡ 0 → ⊥) → (now (out .exit) ≡ now (out .entry)) × (r .session ≡ session)) ⌝ }
+{
+    operations::sign(secret, page, session, message, out)
+}
+
+// The statement of signing allows one answer alone, and one content of its buffer.
+pub fn signing_has_one_answer(
+    secret: &[u8],
+    page: &[u8],
+    session: u32,
+    message: &[u8],
+    out: &mut [u8],
+) -> Signed
+    ensures { λ r. ⌜ ((e : SignEnd) → e ≡ signOf (now (secret .entry)) (now (page .entry)) session (now (message .entry)) (now (out .entry)) → e ≡ signEnd r (now (out .exit))) ⌝ }
+{
+    operations::sign(secret, page, session, message, out)
+}
 
 // Demand 1: "Every input gets one of the fixed numbered refusals or a result", each exactly when its condition holds.
 pub fn checking_gives_each_number_exactly(key: &[u8], message: &[u8], signature: &[u8]) -> Checked
@@ -52,3 +189,8 @@ pub fn checking_has_one_answer(key: &[u8], message: &[u8], signature: &[u8]) -> 
 {
     operations::check(key, message, signature)
 }
+
+// The customer's table of examples, in one statement over its twelve rows.
+pub fn every_row_of_the_table_holds()
+    ensures { λ _. ⌜ Table ⌝ }
+{}

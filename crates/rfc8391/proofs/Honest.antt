@@ -6,7 +6,7 @@ use native.Mathlib.Omega.{arith}
 use Rattle.lists.proofs.Tabs.{length-tab}
 use Rattle.rfc8391.specs.Suite.{Suite, Value, Values}
 use Rattle.rfc8391.specs.Wots.{wotsPk, wotsSign}
-use Rattle.rfc8391.specs.Xmss.{otsAt, ltreeAt, messageDigest, ltree, authPath, rootFromPath, rootFromSig, leafOf, rootOf, publicKeyOf, signatureOf, verify}
+use Rattle.rfc8391.specs.Xmss.{otsAt, ltreeAt, messageDigest, ltree, authPath, rootFromPath, rootFromSig, leafOf, rootOf, publicKeyOf, signatureWith, signatureOf, verify}
 use Rattle.rfc8391.specs.House.{secretValue}
 use Rattle.rfc8391.specs.declared.Address.{Address}
 use Rattle.rfc8391.proofs.Values.{tab-values}
@@ -50,5 +50,5 @@ module _ (S : Suite) where
     -- and so an honest signature of any message verifies
     pub honest-verifies : (t h i : ℕ) (skPrf m : List ℕ) → i < 2 ^ h
         → verify S a h (publicKeyOf S seed t a sk h) m (signatureOf S seed a sk skPrf h i m)
-    unfolding verify publicKeyOf signatureOf
+    unfolding verify publicKeyOf signatureWith signatureOf
     honest-verifies t h i skPrf m q = honest-root h i _ q

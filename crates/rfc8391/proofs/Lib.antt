@@ -6,4 +6,5 @@ pub mod Ltrees
 pub mod Trees
 pub mod Honest
 pub mod Formats
+pub mod Accepted
 pub mod Table

@@ -102,15 +102,19 @@ module _ (S : Suite) where
     unfoldable pub publicKeyOf : ℕ → Address → (ℕ → ℕ → List ℕ) → ℕ → PublicKey
     publicKeyOf t a sk h = record { type = t; root = rootOf a sk h; seed = seed }
 
-    -- 4.1.9, Algorithms 11 and 12: the signature of a message by leaf i, with r of the message key skPrf
-    unfoldable pub signatureOf : Address → (ℕ → ℕ → List ℕ) → List ℕ → ℕ → ℕ → List ℕ → Signature
-    signatureOf a sk skPrf h i m =
+    -- 4.1.9, Algorithms 11 and 12: the signature of a message by leaf i, with r of the message key skPrf, under a key of that root, with
+    -- that path; and the one of the key that Algorithm 10 makes
+    unfoldable pub signatureWith : Address → (ℕ → ℕ → List ℕ) → List ℕ → List ℕ → List (List ℕ) → ℕ → List ℕ → Signature
+    signatureWith a sk skPrf root path i m =
         record {
           idx = i;
           r = S .PRF skPrf (toByte i 32);
-          values = wotsSign S seed (otsAt a i) (messageDigest (S .PRF skPrf (toByte i 32)) (rootOf a sk h) i m) (sk i);
-          auth = authPath a (leafOf a sk) h i;
+          values = wotsSign S seed (otsAt a i) (messageDigest (S .PRF skPrf (toByte i 32)) root i m) (sk i);
+          auth = path;
         }
+
+    unfoldable pub signatureOf : Address → (ℕ → ℕ → List ℕ) → List ℕ → ℕ → ℕ → List ℕ → Signature
+    signatureOf a sk skPrf h i m = signatureWith a sk skPrf (rootOf a sk h) (authPath a (leafOf a sk) h i) i m
 
   -- 4.1.10, Algorithm 14: the signature of a message is valid under a key of height h
   unfoldable pub verify : Address → ℕ → PublicKey → List ℕ → Signature → Type 0

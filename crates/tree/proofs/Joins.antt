@@ -32,7 +32,7 @@ join-by S seed n32 a l r key m₁ m₂ x y out ek e₁ e₂ ex ey eo =
     (ap (λ (n : ℕ). S .H (prfAt S seed (setKeyAndMask a 0)) (xor n l (prfAt S seed (setKeyAndMask a 1)) ++ xor n r (prfAt S seed (setKeyAndMask a 2)))) (sym n32))
 
 -- the secret values that are held for leaf i are the key's
-value-is : (S : Suite) (sk seed : List ℕ) (a : Address) (i : ℕ) (x : Secrets) → x .secret ≡ sk → x .public ≡ seed → x .at ≡ otsAt a i
+pub value-is : (S : Suite) (sk seed : List ℕ) (a : Address) (i : ℕ) (x : Secrets) → x .secret ≡ sk → x .public ≡ seed → x .at ≡ otsAt a i
     → suiteOf (x .leaf) ≡ S → (c : ℕ) → valueOf x c ≡ secrets S sk seed a i c
 unfolding valueOf secrets
 value-is S sk seed a i x es ep ea eS c = rw (eS, es, ep, ea)

@@ -1,0 +1,9 @@
+-- The laws of `marks`.
+pub mod Tests
+pub mod Marks
+pub mod Bytes
+pub mod Pages
+pub mod Counting
+pub mod Answers
+pub mod Marking
+pub mod Table

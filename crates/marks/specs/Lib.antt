@@ -1,0 +1,7 @@
+-- The definitions of `marks`.
+pub mod Page
+pub mod Decisions
+pub mod Marking
+pub mod Ordered
+pub mod Shown
+pub mod Table
