@@ -29,8 +29,9 @@ vectors: ## write crates/vectors/stdin and stdout anew from Debian's package
 	@tests/setup
 	@tests/make-vectors crates/vectors
 
-cases: ## write the stored cases of checking and the example anew from the independent program
+cases: ## write the stored cases of checking and signing and the example anew from the independent program
 	@tests/make-cases
+	@tests/make-calls
 
 clean: ## remove what was built
 	@rm -rf target

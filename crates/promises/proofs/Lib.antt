@@ -2,3 +2,9 @@
 pub mod Checking
 pub mod Making
 pub mod Signing
+pub mod Honest
+pub mod Calls
+pub mod Steps
+pub mod Story
+pub mod Restarts
+pub mod Pairs

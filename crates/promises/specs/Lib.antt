@@ -3,3 +3,7 @@ pub mod Checking
 pub mod Making
 pub mod Signing
 pub mod Table
+pub mod History
+pub mod Kept
+pub mod Call
+pub mod Phases

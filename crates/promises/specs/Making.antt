@@ -25,13 +25,13 @@ module _ (type : ℕ) (material secret key : List ℕ) where
     pub done : (outcome ≡ 0) ↔ (MaterialFits × (type ≡ 1) × BuffersFit)
 
 -- the three seeds of seed material
-abbrev secretSeed : List ℕ → List ℕ
+abbrev pub secretSeed : List ℕ → List ℕ
 secretSeed material = take 32 material
 
-abbrev messageKey : List ℕ → List ℕ
+abbrev pub messageKey : List ℕ → List ℕ
 messageKey material = take 32 (drop 32 material)
 
-abbrev publicSeed : List ℕ → List ℕ
+abbrev pub publicSeed : List ℕ → List ℕ
 publicSeed material = take 32 (drop 64 material)
 
 -- the secret values by our rule

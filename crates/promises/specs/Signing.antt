@@ -5,7 +5,11 @@ use mathlib.Core.Logic.{_↔_}
 use Prim.Native.Nat.{ℕ, _≤_}
 use lib.ListN.{length}
 use Rattle.lists.specs.Bytes.{number}
+use Rattle.rfc8391.specs.Xmss.{signatureOf}
+use Rattle.rfc8391.specs.Formats.{signatureBytes, singleTree}
+use Rattle.keyed.specs.Sha2.{sha2}
 use Rattle.marks.specs.Page.{used, WellFormed}
+use Rattle.promises.specs.Making.{messageKey, publicSeed, secretValues}
 
 module _ (secret page : List ℕ) (session : ℕ) (m out : List ℕ) where
   abbrev RecordFits : Type 0
@@ -33,3 +37,8 @@ module _ (secret page : List ℕ) (session : ℕ) (m out : List ℕ) where
     pub seven : (outcome ≡ 7) ↔ (RecordFits × TypeServed × MessageFits × OutFits × (WellFormed page → ⊥))
     pub ten : (outcome ≡ 10) ↔ (RecordFits × TypeServed × MessageFits × OutFits × WellFormed page × (PageFits → ⊥))
     pub done : (outcome ≡ 0) ↔ (RecordFits × TypeServed × MessageFits × OutFits × WellFormed page × PageFits)
+
+-- RFC 8391's signature of a message by index i, with the key that seed material gives
+abbrev pub signatureFor : List ℕ → ℕ → List ℕ → List ℕ
+signatureFor material i m =
+    signatureBytes (signatureOf sha2 (publicSeed material) singleTree (secretValues material) (messageKey material) 10 i m)

@@ -1,9 +1,10 @@
 // What is promised of each operation, by a call of it: the door by which a reader comes in.
-// Uses the operations; no other crate but the shams uses it.
+// Uses the operations and the page of marks; the shams use it.
 // A promise takes the operation's arguments, calls it, and ensures the customer's sentence about what came back.
 ghost use mathlib.Core.Path.{_≡_};
+ghost use mathlib.Core.List.{List};
 ghost use mathlib.Core.Logic.{_↔_};
-ghost use Prim.Native.Nat.{_-_};
+ghost use Prim.Native.Nat.{ℕ, _-_};
 ghost use lib.ListN.{length};
 ghost use Rattle.rfc8391.specs.declared.KeyType.the-variants.{Unknown};
 ghost use Rattle.keyed.specs.Sha2.{sha2};
@@ -15,8 +16,11 @@ ghost use Rattle.operations.specs.Make.{MakeEnd, makeEnd, makeOf};
 ghost use Rattle.operations.specs.Sign.{SignEnd, signEnd, signOf};
 ghost use Rattle.promises.specs.Checking.{Numbers, Accepted};
 ghost use Rattle.promises.specs.Making.{MakeNumbers, KeyPair};
-ghost use Rattle.promises.specs.Signing.{SignNumbers};
+ghost use Rattle.promises.specs.Signing.{SignNumbers, signatureFor};
 ghost use Rattle.promises.specs.Table.{Table};
+ghost use Rattle.promises.specs.History.{honest, Step};
+ghost use Rattle.promises.specs.Kept.{secretFor, keyFor, AlwaysKept, Restarted};
+ghost use Rattle.promises.specs.Call.{Called, Ran};
 use marks::Marked;
 use marks::Reserved;
 use operations::Checked;
@@ -134,6 +138,20 @@ pub fn refused_signing_changes_nothing(
     operations::sign(secret, page, session, message, out)
 }
 
+// Demand 2: "signatures made for height 10 are, byte for byte, those of RFC 8391 with our written rule for the secret values": with the
+// record that making wrote for some seed material.
+pub fn signatures_are_those_of_rfc_8391(
+    secret: &[u8],
+    page: &[u8],
+    session: u32,
+    message: &[u8],
+    out: &mut [u8],
+) -> Signed
+    ensures { λ r. ⌜ ((material : List ℕ) → length material ≡ 96 → now (secret .entry) ≡ secretFor material → r .outcome ≡ 0 → now (out .exit) ≡ signatureFor material (session - 1) (now (message .entry))) ⌝ }
+{
+    operations::sign(secret, page, session, message, out)
+}
+
 // The statement of signing allows one answer alone, and one content of its buffer.
 pub fn signing_has_one_answer(
     secret: &[u8],
@@ -189,6 +207,94 @@ pub fn checking_has_one_answer(key: &[u8], message: &[u8], signature: &[u8]) -> 
 {
     operations::check(key, message, signature)
 }
+
+// Which operation a step of a history calls.
+pub enum Kind {
+    Reserving,
+    Marking,
+    Signing,
+}
+
+// What a call of a history answers.
+pub struct Answer {
+    pub outcome: u32,
+    pub session: u32,
+}
+
+// Runs one call of a history on real buffers: this ties histories to the code.
+pub fn call(
+    kind: Kind,
+    secret: &[u8],
+    page: &mut [u8],
+    session: u32,
+    message: &[u8],
+    out: &mut [u8],
+) -> Answer
+    ensures { λ r. ⌜ Called (now (secret .entry)) kind (now (message .entry)) (now (page .entry)) (now (out .entry)) session r (now (page .exit)) (now (out .exit)) ⌝ }
+{
+    match kind {
+        Kind::Reserving => {
+            let a = marks::reserve(page, session);
+            Answer {
+                outcome: a.outcome,
+                session: a.session,
+            }
+        }
+        Kind::Marking => {
+            let a = marks::mark(page, session);
+            Answer {
+                outcome: a.outcome,
+                session: a.session,
+            }
+        }
+        Kind::Signing => {
+            let a = operations::sign(secret, page, session, message, out);
+            Answer {
+                outcome: a.outcome,
+                session: a.session,
+            }
+        }
+    }
+}
+
+// The same by a history's step, from any state that has this page and this session.
+pub fn a_call_is_a_step(
+    kind: Kind,
+    secret: &[u8],
+    page: &mut [u8],
+    session: u32,
+    message: &[u8],
+    out: &mut [u8],
+) -> Answer
+    ensures { λ r. ⌜ Ran (now (secret .entry)) kind (now (message .entry)) (now (page .entry)) (now (out .entry)) session r (now (page .exit)) (now (out .exit)) ⌝ }
+{
+    call(kind, secret, page, session, message, out)
+}
+
+// Demand 3: "Let calls to reserve an index, store its mark and sign come in any sequence, cut by restarts anywhere. .. Then signing such
+// a message for a pending index with its mark stored, into 2,500 bytes, gives a signature, and every one given is accepted for its message.
+// No two carry the same index. Marks used never exceed signatures given plus restarts plus one. Reserving with no index pending is refused
+// for want of indices exactly when all 1,024 marks are used."
+pub fn every_history_keeps_demand_three()
+    ensures { λ _. ⌜ ((material : List ℕ) → length material ≡ 96 → AlwaysKept (honest (secretFor material)) (keyFor material)) ⌝ }
+{}
+
+// Demand 3 begins: "Take a key pair made by demand 2": whatever making writes into the two lent buffers keeps the rest.
+pub fn a_made_key_keeps_demand_three(
+    kind: u32,
+    material: &[u8],
+    secret: &mut [u8],
+    key: &mut [u8],
+) -> Made
+    ensures { λ r. ⌜ (r .outcome ≡ 0 → AlwaysKept (honest (now (secret .exit))) (now (key .exit))) ⌝ }
+{
+    operations::make(kind, material, secret, key)
+}
+
+// A mark used stays used. "A mark used but not signed for before the restart is lost. A reserved index whose mark was never stored is given again."
+pub fn every_restart_does_what_is_said()
+    ensures { λ _. ⌜ ((secret : List ℕ) (xs ys : List Step) → Restarted (honest secret) xs ys) ⌝ }
+{}
 
 // The customer's table of examples, in one statement over its twelve rows.
 pub fn every_row_of_the_table_holds()

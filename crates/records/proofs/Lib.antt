@@ -2,3 +2,4 @@
 pub mod Pasted
 pub mod Made
 pub mod Signed
+pub mod Read

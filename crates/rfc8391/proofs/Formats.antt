@@ -29,12 +29,12 @@ pub record SignatureFits (n h : ℕ) (s : Signature) : Type 0 where
   pub node : (k : ℕ) → k < h → length (getD (s .auth) k []) ≡ n
 
 -- a number of 4 bytes at the front
-front-number : (x : ℕ) (l : List ℕ) → x < 2 ^ 32 → number (toByte x 4 ++ l) 0 4 ≡ x
+pub front-number : (x : ℕ) (l : List ℕ) → x < 2 ^ 32 → number (toByte x 4 ++ l) 0 4 ≡ x
 front-number x l h =
     number-front (toByte x 4) l 0 4 (rw length-toByte (omega arith)) ∙ number-toByte x 4 ∙ mod-eq-of-lt h
 
 -- a part in the middle
-middle : (n b : ℕ) (p x q : List ℕ) → length p ≡ b → length x ≡ n → take n (drop b (p ++ (x ++ q))) ≡ x
+pub middle : (n b : ℕ) (p x q : List ℕ) → length p ≡ b → length x ≡ n → take n (drop b (p ++ (x ++ q))) ≡ x
 middle n b p x q lp lx = rw (drop-at p (x ++ q) b lp) (take-at x q n lx)
 
 pub key-read : (n : ℕ) (k : PublicKey) → KeyFits n k → keyFrom n (keyBytes k) ≡ k

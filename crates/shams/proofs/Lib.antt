@@ -1,2 +1,3 @@
 -- Why each sham breaks a promise.
 pub mod Checks
+pub mod Histories

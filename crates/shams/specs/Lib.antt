@@ -2,3 +2,4 @@
 pub mod ToyValues
 pub mod Toy
 pub mod Checks
+pub mod Histories

@@ -4,7 +4,11 @@
 ghost use mathlib.Core.Path.{_≡_};
 ghost use Prim.Native.Nat.{ℕ};
 ghost use Rattle.rfc8391.specs.Suite.{Suite};
+ghost use mathlib.Core.List.{List};
+ghost use lib.ListN.{length};
+ghost use Rattle.promises.specs.Kept.{secretFor, keyFor, AlwaysKept};
 ghost use Rattle.shams.specs.Toy.{toy};
+ghost use Rattle.shams.specs.Histories.{fixedIndex, refusingAll, inventedCount, markingNothing, fixedSignature, writingNothing, firstHonest};
 ghost use Rattle.shams.specs.Checks.{Kept, honest, fixed, refusing, oneChain};
 
 // That the promises can be kept: the honest way keeps them, over any suite with values of 32 bytes.
@@ -22,4 +26,33 @@ pub fn refusing_everything_breaks_a_promise()
 
 pub fn checking_one_chain_breaks_a_promise()
     ensures { λ _. ⌜ (Kept toy (oneChain toy) → ⊥) ⌝ }
+{}
+
+// Over histories of a key that making wrote.
+pub fn one_fixed_index_breaks_demand_three()
+    ensures { λ _. ⌜ ((material : List ℕ) → length material ≡ 96 → AlwaysKept (fixedIndex (secretFor material)) (keyFor material) → ⊥) ⌝ }
+{}
+
+pub fn reserving_that_refuses_everything_breaks_demand_three()
+    ensures { λ _. ⌜ ((material : List ℕ) → length material ≡ 96 → AlwaysKept (refusingAll (secretFor material)) (keyFor material) → ⊥) ⌝ }
+{}
+
+pub fn an_invented_count_breaks_demand_three()
+    ensures { λ _. ⌜ ((material : List ℕ) → length material ≡ 96 → AlwaysKept (inventedCount (secretFor material)) (keyFor material) → ⊥) ⌝ }
+{}
+
+pub fn marking_that_writes_nothing_breaks_demand_three()
+    ensures { λ _. ⌜ ((material : List ℕ) → length material ≡ 96 → AlwaysKept (markingNothing (secretFor material)) (keyFor material) → ⊥) ⌝ }
+{}
+
+pub fn signing_that_writes_nothing_breaks_demand_three()
+    ensures { λ _. ⌜ ((material : List ℕ) → length material ≡ 96 → AlwaysKept (writingNothing (secretFor material)) (keyFor material) → ⊥) ⌝ }
+{}
+
+pub fn one_honest_signature_breaks_demand_three()
+    ensures { λ _. ⌜ ((material : List ℕ) → length material ≡ 96 → AlwaysKept (firstHonest (secretFor material)) (keyFor material) → ⊥) ⌝ }
+{}
+
+pub fn one_fixed_signature_breaks_demand_three()
+    ensures { λ _. ⌜ ((material signature : List ℕ) → length material ≡ 96 → AlwaysKept (fixedSignature (secretFor material) signature) (keyFor material) → ⊥) ⌝ }
 {}
