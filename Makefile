@@ -19,7 +19,7 @@ run: ## check the frames of FRAMES=file, or of examples/yard.frames: line number
 test: ## the gate: every proof from nothing, must-fail edits, programs, tests outside Rattle
 	@.ci/run
 
-bench: ## SHA-256, a leaf, a whole key and a check beside plain C, and checks beside Botan and Bouncy Castle
+bench: ## SHA-256, a leaf, making, signing and a check beside plain C, and the last three beside Botan and Bouncy Castle
 	@bench/run
 
 fmt: ## lay out every .rt and .antt file

@@ -1,13 +1,18 @@
 // Times Bouncy Castle on the checks of bench/signatures.py, which it reads from standard input, and prints as checks.c does.
-// Its SHA-256 is Java on every machine.
+// Then times making and signing, and prints as pairs.c does. Its SHA-256 is Java on every machine.
 import java.io.IOException;
+import java.lang.management.ManagementFactory;
 import java.nio.ByteBuffer;
+import java.security.SecureRandom;
 import java.util.ArrayList;
 import java.util.Arrays;
 import java.util.List;
 import java.util.Locale;
+import org.bouncycastle.crypto.AsymmetricCipherKeyPair;
 import org.bouncycastle.crypto.digests.SHA256Digest;
 import org.bouncycastle.jce.provider.BouncyCastleProvider;
+import org.bouncycastle.pqc.crypto.xmss.XMSSKeyGenerationParameters;
+import org.bouncycastle.pqc.crypto.xmss.XMSSKeyPairGenerator;
 import org.bouncycastle.pqc.crypto.xmss.XMSSParameters;
 import org.bouncycastle.pqc.crypto.xmss.XMSSPublicKeyParameters;
 import org.bouncycastle.pqc.crypto.xmss.XMSSSigner;
@@ -15,6 +20,8 @@ import org.bouncycastle.pqc.crypto.xmss.XMSSSigner;
 class BouncyCastle {
     // Java compiles while it runs; the rounds that count begin when it has long settled.
     static final int WARM_ROUNDS = 100, ROUNDS = 300;
+    // From a new key's first signature on they take longer and longer; the mean of so many is about that of all 1,024.
+    static final int PAIRS = 2, SIGNATURES = 256;
     static final XMSSParameters PARAMETERS = new XMSSParameters(10, new SHA256Digest());
 
     record Check(byte[] key, byte[] message, byte[] signature) {
@@ -45,16 +52,52 @@ class BouncyCastle {
         return checks;
     }
 
+    // Processor time of this thread, as bench.c counts it; Bouncy Castle starts no other.
+    static long now() {
+        return ManagementFactory.getThreadMXBean().getCurrentThreadCpuTime();
+    }
+
     static void timeRound(List<Check> checks, long[] least) {
         for (int i = 0; i < least.length; i++) {
-            long start = System.nanoTime();
+            long start = now();
             if (!checks.get(i).accepted()) throw new IllegalStateException("signature " + i + " is refused");
-            least[i] = Math.min(least[i], System.nanoTime() - start);
+            least[i] = Math.min(least[i], now() - start);
         }
     }
 
-    public static void main(String[] arguments) throws IOException {
-        List<Check> checks = read();
+    static AsymmetricCipherKeyPair make() {
+        XMSSKeyPairGenerator generator = new XMSSKeyPairGenerator();
+        generator.init(new XMSSKeyGenerationParameters(PARAMETERS, new SecureRandom()));
+        return generator.generateKeyPair();
+    }
+
+    // The last of so many signatures of one message.
+    static Check sign(AsymmetricCipherKeyPair pair) throws IOException {
+        XMSSSigner signer = new XMSSSigner();
+        signer.init(true, pair.getPrivate());
+        byte[] message = new byte[32], signature = null;
+        for (int i = 0; i < SIGNATURES; i++) signature = signer.generateSignature(message);
+        return new Check(((XMSSPublicKeyParameters) pair.getPublic()).getEncoded(), message, signature);
+    }
+
+    static void timePairs() throws IOException {
+        long make = Long.MAX_VALUE, sign = Long.MAX_VALUE;
+        for (int i = 0; i < PAIRS; i++) {
+            long start = now();
+            AsymmetricCipherKeyPair pair = make();
+            long middle = now();
+            Check signed = sign(pair);
+            long end = now();
+            if (!signed.accepted()) throw new IllegalStateException("its own signature is refused");
+            make = Math.min(make, middle - start);
+            sign = Math.min(sign, end - middle);
+        }
+        System.out.printf(Locale.ROOT, "make %d Bouncy Castle%nsign %d Bouncy Castle%n", make, sign / SIGNATURES);
+        System.out.println("note Bouncy Castle keeps nodes of its tree between signatures, so its signing is other work: the mean of "
+            + SIGNATURES);
+    }
+
+    static void timeChecks(List<Check> checks) {
         for (Check check : checks)
             if (check.damaged().accepted()) throw new IllegalStateException("a damaged signature is accepted");
         long[] least = new long[checks.size()];
@@ -63,6 +106,11 @@ class BouncyCastle {
             timeRound(checks, least);
         }
         System.out.printf(Locale.ROOT, "check %.1f Bouncy Castle%n", Arrays.stream(least).average().getAsDouble());
+    }
+
+    public static void main(String[] arguments) throws IOException {
+        timeChecks(read());
+        timePairs();
         System.out.printf("note Bouncy Castle %s on Java %s%n", new BouncyCastleProvider().getVersionStr(), Runtime.version());
     }
 }

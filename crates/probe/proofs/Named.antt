@@ -1,9 +1,9 @@
--- A key over a prepared seed of the suite of SHA-256 is the key of RFC 8391 over that suite.
+-- A leaf over a prepared seed of the suite of SHA-256 is the leaf of RFC 8391 over that suite.
 use mathlib.Core.Path.{_≡_}
 use mathlib.Core.List.{List}
 use Prim.Native.Nat.{ℕ}
 use Rattle.rfc8391.specs.House.{secrets}
-use Rattle.rfc8391.specs.Xmss.{leafOf, node, rootOf}
+use Rattle.rfc8391.specs.Xmss.{leafOf}
 use Rattle.rfc8391.specs.Formats.{singleTree}
 use Rattle.rfc8391.specs.declared.Address.{Address}
 use Rattle.keyed.specs.Sha2.{sha2}
@@ -15,7 +15,3 @@ module _ (sk public : List ℕ) (s : Seed) (a : Address) (bytes : s .bytes ≡ p
   pub leaf-named : (i : ℕ) → leafAt sk s a i ≡ leafOf sha2 public singleTree (secrets sha2 sk public singleTree) i
   unfolding leafAt
   leaf-named i = rw (suite, bytes, at)
-
-  pub root-named : (h : ℕ) → node (suiteOf s) (s .bytes) a (leafAt sk s a) h 0 ≡ rootOf sha2 public singleTree (secrets sha2 sk public singleTree) h
-  unfolding leafAt rootOf
-  root-named h = rw (suite, bytes, at)

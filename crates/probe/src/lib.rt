@@ -4,7 +4,7 @@ ghost use mathlib.Core.Path.{_≡_};
 ghost use Rattle.sha256.specs.Sha256.{sha256};
 ghost use Rattle.keyed.specs.Sha2.{sha2};
 ghost use Rattle.rfc8391.specs.House.{secrets};
-ghost use Rattle.rfc8391.specs.Xmss.{leafOf, rootOf};
+ghost use Rattle.rfc8391.specs.Xmss.{leafOf};
 ghost use Rattle.rfc8391.specs.Formats.{singleTree};
 ghost use Rattle.operations.specs.Check.{checkOf};
 ghost use Rattle.operations.specs.Make.{makeOf};
@@ -24,20 +24,6 @@ pub extern "C" fn zab_probe_leaf(secret: &[u8; 32], public: &[u8; 32], i: u32, o
     ensures { λ _. ⌜ now (out .exit) ≡ leafOf sha2 (now (public .entry)) singleTree (secrets sha2 (now (secret .entry)) (now (public .entry)) singleTree) i ⌝ }
 {
     *out = tree::leaf(*secret, keyed::prepare(*public), Address::single_tree(), i);
-}
-
-// The root of a key of height 10.
-#[no_mangle]
-pub extern "C" fn zab_probe_root(secret: &[u8; 32], public: &[u8; 32], out: &mut [u8; 32])
-    ensures { λ _. ⌜ now (out .exit) ≡ rootOf sha2 (now (public .entry)) singleTree (secrets sha2 (now (secret .entry)) (now (public .entry)) singleTree) 10 ⌝ }
-{
-    *out = tree::node_at(
-        *secret,
-        keyed::prepare(*public),
-        Address::single_tree(),
-        10,
-        0,
-    );
 }
 
 #[no_mangle]
