@@ -1,6 +1,7 @@
 -- The laws behind the promises.
 pub mod Checking
 pub mod Making
+pub mod Marking
 pub mod Signing
 pub mod Honest
 pub mod Calls

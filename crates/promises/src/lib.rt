@@ -4,7 +4,7 @@
 ghost use mathlib.Core.Path.{_≡_};
 ghost use mathlib.Core.List.{List};
 ghost use mathlib.Core.Logic.{_↔_};
-ghost use Prim.Native.Nat.{ℕ, _-_};
+ghost use Prim.Native.Nat.{ℕ, _+_, _-_, _/_};
 ghost use lib.ListN.{length};
 ghost use Rattle.rfc8391.specs.declared.KeyType.the-variants.{Unknown};
 ghost use Rattle.keyed.specs.Sha2.{sha2};
@@ -77,6 +77,20 @@ pub fn reserving_gives_each_number_exactly(page: &[u8], session: u32) -> Reserve
     marks::reserve(page, session)
 }
 
+// Refused, reserving hands out nothing: the session as given, place and value 0.
+pub fn refused_reserving_hands_out_nothing(page: &[u8], session: u32) -> Reserved
+    ensures { λ r. ⌜ ((r .outcome ≡ 0 → ⊥) → (r .session ≡ session) × (r .place ≡ 0) × (r .value ≡ 0)) ⌝ }
+{
+    marks::reserve(page, session)
+}
+
+// Else the session for the first unused index, and the place of its page byte.
+pub fn reserving_hands_out_the_first_unused_index(page: &[u8], session: u32) -> Reserved
+    ensures { λ r. ⌜ (r .outcome ≡ 0 → (r .session ≡ used (now (page .entry)) + 1) × (r .place ≡ used (now (page .entry)) / 8)) ⌝ }
+{
+    marks::reserve(page, session)
+}
+
 // The byte that reserving hands out is what marking stores: a caller may store it itself, and marking then changes nothing.
 pub fn byte_handed_out_is_what_marking_stores(page: &[u8], session: u32) -> Reserved
     ensures { λ r. ⌜ (r .outcome ≡ 0 → StoredByte (now (page .entry)) r) ⌝ }
@@ -94,6 +108,20 @@ pub fn reserving_has_one_answer(page: &[u8], session: u32) -> Reserved
 // Demand 1: each number of marking exactly when its condition holds and none earlier does.
 pub fn marking_gives_each_number_exactly(page: &mut [u8], session: u32) -> Marked
     ensures { λ r. ⌜ MarkNumbers (now (page .entry)) session (r .outcome) ⌝ }
+{
+    marks::mark(page, session)
+}
+
+// Demand 1: "A refused call leaves each buffer lent to it as it found it". The session is handed back as given, refused or not.
+pub fn refused_marking_changes_nothing(page: &mut [u8], session: u32) -> Marked
+    ensures { λ r. ⌜ (r .session ≡ session) × ((r .outcome ≡ 0 → ⊥) → now (page .exit) ≡ now (page .entry)) ⌝ }
+{
+    marks::mark(page, session)
+}
+
+// A mark that is stored already is left as it is.
+pub fn marking_again_changes_nothing(page: &mut [u8], session: u32) -> Marked
+    ensures { λ r. ⌜ (used (now (page .entry)) ≡ session → now (page .exit) ≡ now (page .entry)) ⌝ }
 {
     marks::mark(page, session)
 }
