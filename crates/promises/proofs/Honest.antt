@@ -109,3 +109,7 @@ module _ (material : List ℕ) (l : length material ≡ 96) where
       ap (λ (y : SignEnd). y .out) (e ∙ sign-given secret page s m out (sym (ap (λ (y : SignEnd). y .answer .outcome) e) ∙ z))
       ∙ ap (λ (k : List ℕ). signatureBytes (signedBy sha2 (recordFrom 32 k) (s - 1) m)) q
       ∙ signature-is (s - 1) m
+
+  pub honest-checks : (i : ℕ) (key m σ : List ℕ) → i < 1024 → length m ≤ 65536 → key ≡ keyFor material → σ ≡ signatureFor material i m → checkOf key m σ .outcome ≡ 0
+  honest-checks i key m σ h w ek es =
+      ap (λ (k : List ℕ). checkOf k m σ .outcome) ek ∙ signature-accepted i m σ h w (es ∙ sym (signature-is i m)) .checked

@@ -4,7 +4,7 @@
 ghost use mathlib.Core.Path.{_≡_};
 ghost use mathlib.Core.List.{List};
 ghost use mathlib.Core.Logic.{_↔_};
-ghost use Prim.Native.Nat.{ℕ, _+_, _-_, _/_};
+ghost use Prim.Native.Nat.{ℕ, _+_, _-_, _/_, _<_, _≤_};
 ghost use lib.ListN.{length};
 ghost use Rattle.rfc8391.specs.declared.KeyType.the-variants.{Unknown};
 ghost use Rattle.keyed.specs.Sha2.{sha2};
@@ -225,6 +225,13 @@ pub fn checking_accepts_what_rfc_8391_accepts(
     signature: &[u8],
 ) -> Checked
     ensures { λ r. ⌜ (r .outcome ≡ 0) ↔ Accepted sha2 (now (key .entry)) (now (message .entry)) (now (signature .entry)) ⌝ }
+{
+    operations::check(key, message, signature)
+}
+
+// Demands 2 and 3 meet: what was signed with a key that making wrote is accepted for its message, for every index of the tree.
+pub fn honest_signature_is_accepted(key: &[u8], message: &[u8], signature: &[u8]) -> Checked
+    ensures { λ r. ⌜ ((material : List ℕ) (i : ℕ) → length material ≡ 96 → i < 1024 → length (now (message .entry)) ≤ 65536 → now (key .entry) ≡ keyFor material → now (signature .entry) ≡ signatureFor material i (now (message .entry)) → r .outcome ≡ 0) ⌝ }
 {
     operations::check(key, message, signature)
 }
