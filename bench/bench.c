@@ -55,7 +55,7 @@ int main(void) {
     compare("block", block, sizeof message / 64 + 1, 2000);
     compare("leaf", leaf, LEAF, 500);
     // The library's functions are aligned to 16 bytes, so another build of this program can put them elsewhere in a line.
-    printf("note our SHA-256 begins at byte %d of a 64-byte line: its place alone can make it a sixth slower\n",
+    printf("note our SHA-256 begins at byte %d of a 64-byte line\n",
            (int)((uintptr_t)zab_probe_sha256 % 64));
     return compare_pairs() ? 0 : 1;
 }
