@@ -2,7 +2,7 @@
 .DEFAULT_GOAL := help
 SHELL := bash
 .SHELLFLAGS := -euo pipefail -c
-.PHONY: help run test bench fmt vectors cases clean
+.PHONY: help run library test bench fmt vectors cases clean
 
 help: ## this list
 	@sed -n 's/^\([a-z]*\):.*## /  make \1	/p' $(MAKEFILE_LIST) | expand -t 16
@@ -14,7 +14,22 @@ run: ## check the frames of FRAMES=file, or of examples/yard.frames: line number
 	@mkdir -p target
 	@echo "building the program; the first time its proofs take some minutes" >&2
 	@rt check check_frames >target/run.log 2>&1 || { cat target/run.log; exit 1; }
-	@target/bin/check_frames <'$(FRAMES)'
+	@tests/setup run
+	@tools/run-here target/bin/check_frames <'$(FRAMES)'
+
+SOURCES := crates.txt $(shell find crates -name '*.rt' -o -name '*.antt')
+LIBRARY := target/staticlib/libzabrintoly.a
+
+library: $(LIBRARY) ## the library for C and C++ on x86-64: target/staticlib/libzabrintoly.a
+
+$(LIBRARY): $(SOURCES)
+	@mkdir -p target
+	@echo "building the library; the first time its proofs take some minutes" >&2
+	@rt staticlib zabrintoly >target/library.log 2>&1 || { cat target/library.log; exit 1; }
+
+# The same for programs of this machine, where it is no x86-64.
+target/native/libzabrintoly.a: $(LIBRARY) tools/native-library
+	@tools/native-library target/native
 
 test: ## the gate: every proof from nothing, must-fail edits, programs, tests outside Rattle
 	@.ci/run

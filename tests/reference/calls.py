@@ -7,11 +7,12 @@ import hashlib
 import subprocess
 
 import frames
+import programs
 import signer
 from limits import LONGEST, message
 from xmss import to_byte
 
-PROGRAM, SECONDS = "target/bin/call_script", 300
+PROGRAM, SECONDS = programs.command("call_script"), 300
 MAKE, RESERVE, MARK, SIGN, CHECK = range(1, 6)
 # What the program reads at most, and the longest buffer that it prints byte by byte
 ROOM, SHORT = 524288, 200
@@ -85,6 +86,6 @@ def printed(script):
     """What the program prints for a script, line by line."""
     lines = []
     for piece in script.pieces():
-        run = subprocess.run([PROGRAM], input=piece, stdout=subprocess.PIPE, timeout=SECONDS, check=True)
+        run = subprocess.run(PROGRAM, input=piece, stdout=subprocess.PIPE, timeout=SECONDS, check=True)
         lines += run.stdout.decode().splitlines()
     return lines

@@ -15,9 +15,11 @@ from functools import lru_cache
 from pathlib import Path
 
 import frames
+import programs
 from chosen_path import flipped
 
-PROGRAM, CASES, SAVED = "target/bin/check_frames", Path("tests/cases"), Path("target/outside/frames-at-random.frames")
+PROGRAM, CASES = programs.command("check_frames"), Path("tests/cases")
+SAVED = Path("target/outside/frames-at-random.frames")
 SEED = int(os.environ.get("SEED", "8391"))
 SECONDS, MIB = 60, 2 ** 20
 STACK, ADDRESS_SPACE, LONG_LINE = 1 * MIB, 16 * MIB, 24 * MIB
@@ -38,17 +40,16 @@ def limit_room():
 
 
 def whole(data):
-    return subprocess.run([PROGRAM], input=data, stdout=subprocess.PIPE, timeout=SECONDS, check=True).stdout
+    return subprocess.run(PROGRAM, input=data, stdout=subprocess.PIPE, timeout=SECONDS, check=True).stdout
 
 
 def in_little_room(data):
-    """From a file, with less memory than a long line has characters."""
+    """From a file, with less memory than a long line has characters. An emulator needs memory of its own: there the stack alone is small."""
+    room = {"env": os.environ | {"QEMU_STACK_SIZE": str(STACK)}} if programs.EMULATED else {"preexec_fn": limit_room}
     with tempfile.TemporaryFile() as source:
         source.write(data)
         source.seek(0)
-        return subprocess.run(
-            [PROGRAM], stdin=source, stdout=subprocess.PIPE, preexec_fn=limit_room, timeout=SECONDS, check=True
-        ).stdout
+        return subprocess.run(PROGRAM, stdin=source, stdout=subprocess.PIPE, timeout=SECONDS, check=True, **room).stdout
 
 
 def untaken(pipe):
@@ -58,7 +59,7 @@ def untaken(pipe):
 def in_pieces(data, size):
     """Each piece is written once the one before has been taken, so that the program's reads end where the pieces do."""
     until = time.monotonic() + SECONDS
-    with tempfile.TemporaryFile() as out, subprocess.Popen([PROGRAM], stdin=subprocess.PIPE, stdout=out, bufsize=0) as program:
+    with tempfile.TemporaryFile() as out, subprocess.Popen(PROGRAM, stdin=subprocess.PIPE, stdout=out, bufsize=0) as program:
         try:
             for start in range(0, len(data), size):
                 while untaken(program.stdin):

@@ -14,6 +14,7 @@ pub enum Tally {
 }
 
 // What reserving answers: the session for the first unused index, the place of its byte and the byte's new value.
+#[repr(C)]
 pub struct Reserved {
     pub outcome: u32,
     pub session: u32,
@@ -22,6 +23,7 @@ pub struct Reserved {
 }
 
 // What marking answers; the page is changed in place.
+#[repr(C)]
 pub struct Marked {
     pub outcome: u32,
     pub session: u32,

@@ -35,7 +35,7 @@ pub record MakeEnd : Type 0 where
 abbrev pub makeEnd : Made → List ℕ → List ℕ → MakeEnd
 makeEnd a r k = record { answer = a; secret = r; key = k }
 
-abbrev made : ℕ → Made
+abbrev pub made : ℕ → Made
 made o = record { outcome = o }
 
 unfoldable pub makeOf : ℕ → List ℕ → List ℕ → List ℕ → MakeEnd

@@ -25,6 +25,7 @@ pub struct Made {
 }
 
 // What signing answers, with the session that the caller goes on with.
+#[repr(C)]
 pub struct Signed {
     pub outcome: u32,
     pub session: u32,
