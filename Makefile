@@ -2,7 +2,7 @@
 .DEFAULT_GOAL := help
 SHELL := bash
 .SHELLFLAGS := -euo pipefail -c
-.PHONY: help run library test bench fmt vectors cases clean
+.PHONY: help run library install test bench fmt vectors cases clean
 
 help: ## this list
 	@sed -n 's/^\([a-z]*\):.*## /  make \1	/p' $(MAKEFILE_LIST) | expand -t 16
@@ -26,6 +26,24 @@ $(LIBRARY): $(SOURCES)
 	@mkdir -p target
 	@echo "building the library; the first time its proofs take some minutes" >&2
 	@rt staticlib zabrintoly >target/library.log 2>&1 || { cat target/library.log; exit 1; }
+
+PREFIX ?= /usr/local
+ROOM = $(DESTDIR)$(PREFIX)
+VERSION := $(shell sed -n 's/^.define ZAB_VERSION "\(.*\)"/\1/p' include/zabrintoly.h)
+PUT = install -D -m 644
+
+install: $(LIBRARY) ## library, headers, pkg-config and CMake files, the checking program and man pages, into PREFIX=/usr/local (DESTDIR too)
+	@rt check check_frames >target/install.log 2>&1 || { cat target/install.log; exit 1; }
+	@$(PUT) $(LIBRARY) '$(ROOM)/lib/libzabrintoly.a'
+	@$(PUT) -t '$(ROOM)/include' include/zabrintoly.h include/zabrintoly.hpp
+	@$(PUT) -t '$(ROOM)/lib/cmake/Zabrintoly' packaging/ZabrintolyConfig.cmake
+	@sed 's/@VERSION@/$(VERSION)/' packaging/ZabrintolyConfigVersion.cmake.in >'$(ROOM)/lib/cmake/Zabrintoly/ZabrintolyConfigVersion.cmake'
+	@install -d '$(ROOM)/lib/pkgconfig' '$(ROOM)/share/man/man3'
+	@sed 's/@VERSION@/$(VERSION)/' packaging/zabrintoly.pc.in >'$(ROOM)/lib/pkgconfig/zabrintoly.pc'
+	@install -D target/bin/check_frames '$(ROOM)/bin/check_frames'
+	@$(PUT) -t '$(ROOM)/share/man/man1' man/check_frames.1
+	@tools/manual include/zabrintoly.h >'$(ROOM)/share/man/man3/zabrintoly.3'
+	@echo 'installed into $(ROOM)'
 
 # The same for programs of this machine, where it is no x86-64.
 target/native/libzabrintoly.a: $(LIBRARY) tools/native-library

@@ -1,7 +1,8 @@
 /*
- * Zabrintoly: XMSS signatures (RFC 8391) of height 10 made, and of heights 10, 16 and 20 checked, with SHA-256 and 32-byte values.
+ * Zabrintoly: XMSS signatures of RFC 8391, made and checked by proved code
  *
- * This header is the manual of the library for C. C++ programs take zabrintoly.hpp, which wraps it.
+ * With SHA-256 and 32-byte values, keys of height 10 are made and sign, and signatures of heights 10, 16 and 20 are checked.
+ * zabrintoly.h is the manual of the library. C++ programs take zabrintoly.hpp, which wraps it.
  *
  * WHAT EVERY CALL DOES
  *   - A call takes numbers and byte buffers, each buffer as a pointer and a length. Any length is allowed: a wrong one is answered
@@ -28,6 +29,7 @@
  *     4. zab_mark with the page as read and the session: it answers 0 and changes nothing where step 2 was done.
  *     5. zab_sign with the page as read and the session. It answers ZAB_SESSION_DOES_NOT_FIT where the mark is not in the page.
  *     6. Go on with the session that it hands back: 0 after a signature.
+ *
  *   After a restart begin with session 0. A mark that was stored without a signature is lost; the next index is taken.
  *   Never make a page anew for a key that has signed, and never bring an old copy of one back: its indices would be used twice.
  *   examples/converter does all of this.
