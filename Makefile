@@ -2,7 +2,7 @@
 .DEFAULT_GOAL := help
 SHELL := bash
 .SHELLFLAGS := -euo pipefail -c
-.PHONY: help run library install test bench fmt vectors cases clean
+.PHONY: help run library install test bench fmt cases clean
 
 help: ## this list
 	@sed -n 's/^\([a-z]*\):.*## /  make \1	/p' $(MAKEFILE_LIST) | expand -t 16
@@ -58,11 +58,8 @@ bench: ## SHA-256, a leaf, making, signing and a check beside plain C, and the l
 fmt: ## lay out every .rt and .antt file
 	@rt fmt
 
-vectors: ## write crates/vectors/stdin and stdout anew from Debian's package
+cases: ## write the stored cases and the example anew from the independent program and NIST's vectors
 	@tests/setup
-	@tests/make-vectors crates/vectors
-
-cases: ## write the stored cases of checking and signing and the example anew from the independent program
 	@tests/make-cases
 	@tests/make-calls
 

@@ -1,12 +1,15 @@
-"""The stored script of calls: whole keys, signatures at the ends of the page, every refusal alone and with each later one.
+"""The stored script of calls: whole keys, signatures at the ends of the page, every refusal alone and with each later one, NIST's vectors.
 
 Each call has the outcome that it is meant to have, so that a slip of the model is seen when the script is made.
 """
+import hashlib
 import sys
 from itertools import combinations
 from multiprocessing import Pool
 from pathlib import Path
 
+import limits
+import nist
 import signer
 import xmss
 from calls import Script
@@ -83,7 +86,7 @@ def reserving(script):
         for session in SESSIONS:
             meant(script.reserve(page_with(used), session), 9 if session != 0 else 8 if used == 1024 else 0)
     for page in bad_pages():
-        for session in 0, 1, 1025:
+        for session in 0, 1:
             meant(script.reserve(page, session), 7)
 
 
@@ -138,6 +141,23 @@ def signing_refused(script, record):
                 meant(script.sign(record, page_with(used), session), 10)
 
 
+def checking(script):
+    for (length, key, signature), outcome in limits.records():
+        meant(script.check(key, length, signature), outcome)
+
+
+def hashing(script):
+    """NIST's digests, and hashlib's at lengths that NIST's files leave out, where the padding changes."""
+    for name in "SHA256ShortMsg", "SHA256LongMsg":
+        for message, digest in nist.messages(name):
+            script.hash(message, digest)
+    for seed, digest in nist.monte_carlo():
+        script.hash_often(seed, digest)
+    for length in 65, 119, 120, 127, 128:
+        message = limits.message(length)
+        script.hash(message, hashlib.sha256(message).digest())
+
+
 def made(key):
     script = Script()
     making(script)
@@ -145,6 +165,8 @@ def made(key):
     marking(script)
     signing(script, key)
     signing_refused(script, key.record())
+    checking(script)
+    hashing(script)
     # The program reads it in one
     data, = script.pieces()
     return data, script.answers()

@@ -13,7 +13,7 @@ from limits import LONGEST, message
 from xmss import to_byte
 
 PROGRAM, SECONDS = programs.command("call_script"), 300
-MAKE, RESERVE, MARK, SIGN, CHECK = range(1, 6)
+MAKE, RESERVE, MARK, SIGN, CHECK, HASH, HASH_OFTEN = range(1, 8)
 # What the program reads at most, and the longest buffer that it prints byte by byte
 ROOM, SHORT = 524288, 200
 
@@ -66,6 +66,13 @@ class Script:
         outcome = frames.check(key, message(length), signature)
         self.add(call(CHECK, length=length, inputs=(key, signature)), "check", outcome)
         return outcome
+
+    def hash(self, data, digest):
+        self.add(call(HASH, inputs=(data, b"")), "hash", digest.hex())
+
+    def hash_often(self, seed, digest):
+        """A thousand times, as NIST's Monte Carlo test does."""
+        self.add(call(HASH_OFTEN, inputs=(seed, b"")), "hash_often", digest.hex())
 
     def answers(self):
         return "".join(line + "\n" for line in self.lines).encode()

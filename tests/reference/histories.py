@@ -15,7 +15,7 @@ from calls import Script, printed
 from limits import LONGEST, message
 from signer import MARKS, page_with, used_marks, with_mark
 
-CRATE, SAVED = Path("crates/call_script"), Path("target/outside/signing-agrees.script")
+CRATE, SAVED = Path("crates/call_script"), Path("target/outside/calls-agree.script")
 SEED = int(os.environ.get("SEED", "8391"))
 # A signature takes the program two seconds.
 SIGNATURES = 10

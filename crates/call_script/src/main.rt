@@ -1,5 +1,5 @@
-// Runs a script of calls on the operations. Prints a line a call: its name, the answer, then each buffer that was lent for writing.
-// Uses the operations and the page of marks, and the kit's io to read and write.
+// Runs a script of calls on the operations and on SHA-256. Prints a line a call: its name, the answer, then each buffer lent for writing.
+// Uses the operations and what lies below them, and the kit's io to read and write.
 // tests/reference/calls.py writes the script: the bytes from which every message is the first so many, and then the calls.
 ghost use Prim.Native.Nat.{_+_, _≤_};
 ghost use lib.ListN.{length};
@@ -138,6 +138,56 @@ fn check(input: &[u8], at: usize, middle: usize, end: usize)
     print_number(checked.outcome);
 }
 
+fn hash(input: &[u8], at: usize, middle: usize)
+    requires { ⌜ (at + 32 ≤ middle) × (middle ≤ length (now input)) ⌝ }
+{
+    let digest = sha256::hash(&input[at + HEAD..middle]);
+    io::write_all(STDOUT_FILENO, b"hash");
+    print_bytes(&digest);
+}
+
+// Three digests in a row, without the first and with a new last one.
+fn moved_up(digests: [u8; 96], last: [u8; 32]) -> [u8; 96] {
+    let mut next = digests;
+    let mut i: usize = 0;
+    while i < 32 {
+        next[i] = digests[32 + i];
+        next[32 + i] = digests[64 + i];
+        next[64 + i] = last[i];
+        i += 1;
+    }
+    next
+}
+
+fn hash_three(digests: [u8; 96]) -> [u8; 32] {
+    sha256::hash(&digests)
+}
+
+// The Monte Carlo test of NIST's SHAVS: a thousand times the digest of the last three digests.
+fn monte_carlo(seed: [u8; 32]) -> [u8; 32] {
+    let mut last = seed;
+    let mut digests = moved_up(moved_up(moved_up([0u8; 96], seed), seed), seed);
+    let mut i: usize = 0;
+    while i < 1000 {
+        let digest = hash_three(digests);
+        let next = moved_up(digests, digest);
+        last = digest;
+        digests = next;
+        i += 1;
+    }
+    last
+}
+
+fn hash_often(input: &[u8], at: usize, middle: usize)
+    requires { ⌜ (at + 32 ≤ middle) × (middle ≤ length (now input)) ⌝ }
+{
+    io::write_all(STDOUT_FILENO, b"hash_often");
+    if middle - at == 64 {
+        let digest = monte_carlo(rfc8391::value_of(&input[at + HEAD..middle]));
+        print_bytes(&digest);
+    }
+}
+
 fn answer_reading(input: &[u8], at: usize, middle: usize, end: usize)
     requires { ⌜ (65537 ≤ at) × (at + 32 ≤ middle) × (middle ≤ end) × (end ≤ length (now input)) ⌝ }
 {
@@ -145,6 +195,8 @@ fn answer_reading(input: &[u8], at: usize, middle: usize, end: usize)
         1 => make(input, at, middle),
         2 => reserve(input, at, middle),
         4 => sign(input, at, middle, end),
+        6 => hash(input, at, middle),
+        7 => hash_often(input, at, middle),
         _ => check(input, at, middle, end),
     }
 }
