@@ -14,7 +14,7 @@ use Rattle.lists.specs.Bytes.{Bytes}
 use Rattle.marks.specs.Page.{markUsed, used, WellFormed}
 use Rattle.marks.specs.Decisions.{wellFormed?}
 use Rattle.marks.specs.Marking.{tally, byteCount, countOf}
-use Rattle.marks.specs.Ordered.{FirstUsed, byteOf}
+use Rattle.marks.proofs.Ordered.{FirstUsed, byteOf}
 use Rattle.marks.specs.declared.Tally.the-variants.{Used, Bad}
 use Rattle.marks.proofs.Tests.{ltb-same}
 use Rattle.marks.proofs.Marks.{marks-are, first-used}

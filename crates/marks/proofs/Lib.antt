@@ -1,4 +1,5 @@
 -- The laws of `marks`.
+pub mod Ordered
 pub mod Tests
 pub mod Marks
 pub mod Bytes

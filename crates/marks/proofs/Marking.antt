@@ -13,7 +13,7 @@ use Rattle.outcomes.specs.Outcome.{outcomeOf, unless}
 use Rattle.outcomes.proofs.Outcomes.{outcome-back, exactly}
 use Rattle.marks.specs.Page.{bitUsed, markUsed, used, WellFormed, withMark}
 use Rattle.marks.specs.Marking.{reserved, reserveRefusals, reserveOf, marked, markRefusals, MarkEnd, markEnd, markOf}
-use Rattle.marks.specs.Ordered.{pageOf}
+use Rattle.marks.proofs.Ordered.{pageOf}
 use Rattle.marks.specs.Shown.{ReserveNumbers, MarkNumbers, OneMark, StoredByte}
 use Rattle.marks.proofs.Tests.{ltb-same}
 use Rattle.marks.proofs.Marks.{marks-are}

@@ -12,7 +12,7 @@ use Rattle.lists.specs.Bytes.{Bytes}
 use Rattle.lists.proofs.Tabs.{length-tab, getD-tab}
 use Rattle.lists.proofs.Everywhere.{tab-all}
 use Rattle.marks.specs.Page.{bitUsed, markUsed, used, usedBelow, WellFormed, cleared, withMark}
-use Rattle.marks.specs.Ordered.{FirstUsed, byteOf, pageOf}
+use Rattle.marks.proofs.Ordered.{FirstUsed, byteOf, pageOf}
 use Rattle.marks.proofs.Tests.{ltb-same}
 use Rattle.marks.proofs.Marks.{marks-are, first-used}
 use Rattle.marks.proofs.Bytes.{bits-are, byte-is, next-byte}

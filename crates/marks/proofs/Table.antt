@@ -7,7 +7,7 @@ use native.Mathlib.Omega.{arith}
 use lib.ListN.{getD}
 use Rattle.lists.specs.Lists.{tab}
 use Rattle.marks.specs.Page.{bitUsed, markUsed, usedBelow, orderedBelow, used, WellFormed, cleared, withMark}
-use Rattle.marks.specs.Ordered.{byteOf, pageOf}
+use Rattle.marks.proofs.Ordered.{byteOf, pageOf}
 use Rattle.marks.specs.Table.{Next, Full, Malformed, PageRows}
 use Rattle.marks.proofs.Pages.{page-counted}
 use Rattle.marks.proofs.Answers.{reserve-malformed, reserve-full, reserve-done, mark-malformed, mark-first}

@@ -2,6 +2,5 @@
 pub mod Page
 pub mod Decisions
 pub mod Marking
-pub mod Ordered
 pub mod Shown
 pub mod Table

@@ -4,6 +4,7 @@ pub mod Making
 pub mod Marking
 pub mod Signing
 pub mod Honest
+pub mod Phases
 pub mod Calls
 pub mod Steps
 pub mod Story

@@ -11,7 +11,7 @@ use Rattle.marks.specs.Page.{markUsed}
 use Rattle.marks.specs.Marking.{reserveOf}
 use Rattle.promises.specs.History.{firstIndex, endIndex, honest, lent, callOf, State, Step, whole, cut, restart, step, run, restarts, start}
 use Rattle.promises.specs.Kept.{Without, Restarting, Restarted}
-use Rattle.promises.specs.Phases.{Preserved, Reached, Phase, idle, pending, marked, Invariant, AtLeast, Lost}
+use Rattle.promises.proofs.Phases.{Preserved, Reached, Phase, idle, pending, marked, Invariant, AtLeast, Lost}
 use Rattle.promises.specs.declared.Kind.the-variants.{Reserving}
 use Rattle.promises.proofs.Honest.{signature-index}
 use Rattle.promises.proofs.Steps.{reserve-next, carried}

@@ -12,14 +12,14 @@ use Rattle.outcomes.proofs.Outcomes.{exactly}
 use Rattle.keyed.specs.Sha2.{sha2}
 use Rattle.marks.specs.Page.{used, WellFormed, Serves, Fits}
 use Rattle.marks.specs.Marking.{reserveOf, MarkEnd, markOf}
-use Rattle.marks.specs.Ordered.{pageOf}
+use Rattle.marks.proofs.Ordered.{pageOf}
 use Rattle.marks.specs.declared.Reserved.{Reserved}
 use Rattle.marks.proofs.Pages.{page-counted, page-next}
 use Rattle.marks.proofs.Answers.{reserve-pending, reserve-full, reserve-done, mark-unfit, mark-again, mark-first}
 use Rattle.operations.specs.Sign.{Stored, signRefusals, SignEnd, signOf}
 use Rattle.operations.proofs.Signs as signing
 use Rattle.promises.specs.History.{firstIndex, endIndex, honest, lent, Call, kindOf, callOf, Given, given, givenBy, State, state, Step, whole, cut, restart, afterCall, step, run, restarts}
-use Rattle.promises.specs.Phases.{signatureAt, Property, Preserved, Reached}
+use Rattle.promises.proofs.Phases.{signatureAt, Property, Preserved, Reached}
 use Rattle.promises.specs.declared.Kind.{Kind}
 use Rattle.promises.specs.declared.Kind.the-variants.{Reserving, Marking, Signing}
 

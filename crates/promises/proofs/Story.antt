@@ -14,14 +14,14 @@ use Rattle.keyed.specs.Sha2.{sha2}
 use Rattle.records.specs.Records.{recordFrom}
 use Rattle.marks.specs.Page.{markUsed, used, WellFormed}
 use Rattle.marks.specs.Marking.{reserveOf}
-use Rattle.marks.specs.Ordered.{pageOf}
+use Rattle.marks.proofs.Ordered.{pageOf}
 use Rattle.marks.proofs.Pages.{page-marks, page-counted, fresh}
 use Rattle.marks.proofs.Marking.{reserve-numbers}
 use Rattle.operations.specs.Sign.{signRefusals, signOf}
 use Rattle.operations.proofs.Signs as signing
 use Rattle.promises.specs.History.{firstIndex, endIndex, honest, lent, callOf, Given, given, State, state, Step, whole, step, run, restarts, start}
 use Rattle.promises.specs.Kept.{secretFor, keyFor, indexOf, Every, Without, Accepted, OneMore, threeCalls, Kept, AlwaysKept}
-use Rattle.promises.specs.Phases.{signatureAt, Property, Preserved, Reached, SignedBelow, Phase, idle, pending, marked, Invariant}
+use Rattle.promises.proofs.Phases.{signatureAt, Property, Preserved, Reached, SignedBelow, Phase, idle, pending, marked, Invariant}
 use Rattle.promises.specs.declared.Kind.the-variants.{Marking, Signing}
 use Rattle.promises.proofs.Honest.{secret-size, secret-type, signature-index, signature-accepted}
 use Rattle.promises.proofs.Steps.{reserve-next, mark-stores, sign-gives, carried}

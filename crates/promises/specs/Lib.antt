@@ -6,4 +6,3 @@ pub mod Table
 pub mod History
 pub mod Kept
 pub mod Call
-pub mod Phases

@@ -12,14 +12,14 @@ use Rattle.lists.specs.Bytes.{number}
 use Rattle.outcomes.specs.Outcome.{outcomeOf}
 use Rattle.keyed.specs.Sha2.{sha2}
 use Rattle.marks.specs.Page.{used, markUsed, bitUsed}
-use Rattle.marks.specs.Ordered.{pageOf}
+use Rattle.marks.proofs.Ordered.{pageOf}
 use Rattle.marks.proofs.Pages.{fresh, page-counted}
 use Rattle.operations.specs.Sign.{SignEnd, signRefusals, signEnd, signed, signOf}
 use Rattle.operations.specs.declared.Signed.{Signed}
 use Rattle.operations.proofs.Signs.{stored, not-stored, sign-done}
 use Rattle.promises.specs.History.{Operations, Given, given, givenBy, State, state, Step, callOf, step, run, start}
 use Rattle.promises.specs.Kept.{secretFor, keyFor, indexOf, Distinct, threeCalls, Kept, AlwaysKept}
-use Rattle.promises.specs.Phases.{signatureAt}
+use Rattle.promises.proofs.Phases.{signatureAt}
 use Rattle.promises.specs.declared.Kind.the-variants.{Signing}
 use Rattle.promises.proofs.Honest.{secret-size, secret-type}
 use Rattle.promises.proofs.Steps.{reserve-next, mark-stores, mark-stored, mark-refused, sign-gives, sign-holds, signedState}

@@ -9,7 +9,7 @@ use borrow.Author.Tests.{not-true, not-false, eqb-true, eqb-false}
 use borrow.Author.Needs.{needs}
 use Rattle.lists.specs.Bytes.{Bytes}
 use Rattle.marks.specs.Marking.{byteCount}
-use Rattle.marks.specs.Ordered.{FirstUsed}
+use Rattle.marks.proofs.Ordered.{FirstUsed}
 use Rattle.marks.specs.declared.Tally.the-variants.{Used}
 use Rattle.marks.proofs.Counting.{counts-none, few, byte-more, byte-out, byte-late, all-counted}
 use Rattle.marks.proofs.count.Statement.{statement}

@@ -1,4 +1,4 @@
--- Marks in order, as the laws speak of them; no contract needs this file.
+-- Marks in order, as the laws speak of them.
 use mathlib.Core.Path.{_≡_}
 use mathlib.Core.Bool.{true}
 use mathlib.Core.List.{List}

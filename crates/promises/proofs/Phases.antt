@@ -1,11 +1,11 @@
--- What a history does to used marks, session and signatures, as the laws speak of it; no contract needs this file.
+-- What a history does to used marks, session and signatures, as the laws speak of it.
 use mathlib.Core.Path.{_≡_}
 use mathlib.Core.List.{List, _∷_}
 use Prim.Native.Nat.{ℕ, suc, _+_, _<_, _≤_}
 use lib.ListN.{length}
 use Rattle.rfc8391.specs.Formats.{signatureBytes}
 use Rattle.keyed.specs.Sha2.{sha2}
-use Rattle.marks.specs.Ordered.{pageOf}
+use Rattle.marks.proofs.Ordered.{pageOf}
 use Rattle.records.specs.Records.{recordFrom}
 use Rattle.records.specs.Keys.{signedBy}
 use Rattle.promises.specs.History.{Given, given, State}
