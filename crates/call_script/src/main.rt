@@ -1,5 +1,5 @@
-// Runs a script of calls on the operations and on SHA-256. Prints a line a call: its name, the answer, then each buffer lent for writing.
-// Uses the operations and what lies below them, and the kit's io to read and write.
+// Runs a script of calls on the operations and on SHA-256; a line a call: its name, the answer, each buffer lent for writing.
+// Uses the operations and what lies below them, and the kit's io.
 // tests/reference/calls.py writes the script: the bytes from which every message is the first so many, and then the calls.
 ghost use Prim.Native.Nat.{_+_, _≤_};
 ghost use lib.ListN.{length};

@@ -1,5 +1,5 @@
-// Checks frames from standard input, a line each, and prints the outcomes.
-// Uses frames, which says what an input prints, and the kit's io: this program only reads, hands over, and writes.
+// Checks frames from standard input, a line each, and prints the outcomes: it only reads, hands over and writes.
+// Uses frames, which says what an input prints, and the kit's io.
 // The customer runs it; the files stdin and stdout here hold the whole run of the customer's paper.
 use libc::STDIN_FILENO;
 use libc::STDOUT_FILENO;

@@ -1,6 +1,6 @@
-// The checking program between reading and writing: a step on characters over buffers that the caller lends. What it
-// prints for a whole input stands in specs/Frames.antt, line by line; lines' laws lead from there to the step.
-// Uses operations' check, lines, and the kit's bytes; the program check_frames stands on it.
+// The checking program between reading and writing: a step on characters, over buffers that the caller lends.
+// Uses checking, lines and the kit's bytes. What it prints for a whole input stands in specs/Frames.antt, line by line.
+// The program check_frames stands on it.
 ghost use mathlib.Core.Path.{_≡_};
 ghost use mathlib.Core.List.{List, []};
 ghost use Prim.Native.Nat.{ℕ, _+_, _*_, _≤_, _<_, _^_};

@@ -1,5 +1,6 @@
-// The keyed functions of RFC 8391 over SHA-256, and seeds that are prepared once: F, H, PRF and the message hash.
-// Uses sha256 and rfc8391; chains and trees use it. Contracts above it speak of suiteOf a seed and not of SHA-256; only the benchmarks' exports name it.
+// F, H, PRF and the message hash of RFC 8391 over SHA-256, and seeds that are prepared once.
+// Uses sha256 and rfc8391.
+// Chains and trees use it. Contracts above speak of suiteOf a seed and not of SHA-256, so that another hash changes nothing there.
 ghost use mathlib.Core.Path.{_≡_};
 ghost use mathlib.Core.List.{_++_};
 ghost use Rattle.lists.specs.Bytes.{toByte};

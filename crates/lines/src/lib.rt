@@ -1,6 +1,6 @@
-// Lines of hexadecimal digits as they come in, and lines of decimal numbers as they go out. What a program that answers
-// lines writes for a whole input, in whatever chunks it comes, stands in specs/ and proofs/ over any answer.
-// Uses lists, and the kit's bytes and io; programs that answer lines stand on it.
+// Lines of hexadecimal digits as they come in, and of decimal numbers as they go out; the law of chunks, over any answer to a line.
+// Uses lists, and the kit's bytes and io.
+// Programs that answer lines stand on it.
 ghost use mathlib.Core.Path.{_≡_};
 ghost use mathlib.Core.List.{[], _∷_, _++_};
 ghost use Prim.Native.Nat.{_+_, _≤_};

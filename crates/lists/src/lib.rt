@@ -1,6 +1,6 @@
-// Lists as loops make them: by a rule on the index, part after part, turn after turn; and numbers in bytes.
-// Definitions are in specs/, their laws in proofs/, and here the code that SHA-256 and RFC 8391 share.
-// Uses nothing; every other crate stands on it.
+// Lists as loops make them, by a rule on the index, part after part, turn after turn; and numbers in bytes.
+// Uses nothing. Definitions are in specs/, their laws in proofs/.
+// Every other crate stands on it.
 ghost use mathlib.Core.Path.{_≡_};
 ghost use mathlib.Core.List.{_++_};
 ghost use Prim.Native.Nat.{_+_, _<_, _≤_};

@@ -1,6 +1,6 @@
 // The page of marks: which indices of a key are used, the next one reserved, and its mark stored before signing.
 // Uses the numbered outcomes and the laws of lists.
-// The operations hand on reserving and marking; signing counts.
+// Signing counts marks by it; reserving and marking are exported as they are.
 ghost use mathlib.Core.Path.{_≡_};
 ghost use mathlib.Core.Bool.{false};
 ghost use Prim.Native.Nat.{_-_, _^_, _<_};

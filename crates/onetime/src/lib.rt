@@ -1,5 +1,6 @@
 // WOTS+, the one-time scheme of RFC 8391: digits, chains, secret values by our rule.
-// Uses keyed; the tree uses it.
+// Uses keyed and what lies below it.
+// The trees and the records use it.
 ghost use mathlib.Core.Path.{_≡_};
 ghost use mathlib.Core.List.{_++_};
 ghost use Prim.Native.Nat.{_+_, _-_, _*_, _/_, _%_, _^_, _<_, _≤_};

@@ -1,5 +1,6 @@
-// The operations: what a caller asks for, and the answer for every input.
-// Uses the page of marks, records and the trees; the promises, the checking program and the library for C++ use it.
+// Making, signing and checking: the answer for every input, and every byte of every buffer.
+// Uses the refusals of outcomes, the page of marks, records and trees.
+// The promises, the checking program and the library for C and C++ use it.
 ghost use mathlib.Core.Path.{_≡_};
 ghost use mathlib.Core.Bool.{true, false};
 ghost use Prim.Native.Nat.{_+_, _*_, _^_, _≤_};

@@ -1,5 +1,6 @@
-// What the benchmarks call: inner layers, making, signing and checking, exported on byte slices.
-// Uses the layers that it shows; bench/ links it, and no other crate uses it.
+// Inner layers, making, signing and checking, exported on byte slices for the benchmarks.
+// Uses the layers that it shows.
+// bench/ links it; no customer does.
 ghost use mathlib.Core.Path.{_≡_};
 ghost use Rattle.sha256.specs.Sha256.{sha256};
 ghost use Rattle.keyed.specs.Sha2.{sha2};

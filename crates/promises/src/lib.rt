@@ -1,6 +1,6 @@
-// What is promised of each operation, by a call of it: the door by which a reader comes in.
-// Uses the operations and the page of marks; the shams use it.
-// A promise takes the operation's arguments, calls it, and ensures the customer's sentence about what came back.
+// What is promised of each operation: a function takes its arguments, calls it, and ensures the customer's sentence on what came back.
+// Uses the operations and the page of marks.
+// It is the door by which a reader comes in (docs/PROMISES.md); the shams use it.
 ghost use mathlib.Core.Path.{_≡_};
 ghost use mathlib.Core.List.{List};
 ghost use mathlib.Core.Logic.{_↔_};

@@ -1,5 +1,6 @@
-// What is written for a key of height 10: the secret record, the public key, and signatures, into lent buffers of the right length.
-// Uses the trees and what lies below them; the operations add the refusals.
+// What is written for a key of height 10: the secret record, the public key, signatures, into buffers of the right length.
+// Uses the trees and what lies below them.
+// The operations add the refusals and use it.
 ghost use mathlib.Core.Path.{_≡_};
 ghost use mathlib.Core.List.{_++_};
 ghost use Prim.Native.Nat.{_+_, _<_, _≤_};

@@ -1,6 +1,6 @@
-// RFC 8391's own small types: addresses, key types, values of 32 bytes. What the document says of them, of chains and of
-// trees stands in specs/, over any hash suite, and its laws in proofs/.
-// Uses lists; everything above uses it.
+// RFC 8391's definitions over any hash suite and their laws, in specs/ and proofs/; here its small types: addresses, key types, values.
+// Uses lists.
+// Everything above uses it.
 ghost use mathlib.Core.Path.{_≡_};
 ghost use Prim.Native.Nat.{_<_};
 ghost use lib.ListN.{length};

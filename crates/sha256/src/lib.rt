@@ -1,6 +1,6 @@
 // SHA-256 of FIPS 180-4: whole messages, and a hash that is taken up after whole blocks (a midstate).
-// Uses lists; keyed hashing uses it.
-// Every public contract is an equation to specs/, which keeps the document's names and order.
+// Uses lists. Every public contract is an equation to specs/, which keeps the document's names and order.
+// Keyed hashing uses it.
 ghost use mathlib.Core.Path.{_≡_};
 ghost use mathlib.Core.List.{_∷_, _++_};
 ghost use Prim.Native.Nat.{_+_, _-_, _*_, _/_, _%_, _^_, _<_, _≤_};

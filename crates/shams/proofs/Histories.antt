@@ -23,7 +23,7 @@ use Rattle.promises.proofs.Phases.{signatureAt}
 use Rattle.promises.specs.declared.Kind.the-variants.{Signing}
 use Rattle.promises.proofs.Honest.{secret-size, secret-type}
 use Rattle.promises.proofs.Steps.{reserve-next, mark-stores, mark-stored, mark-refused, sign-gives, sign-holds, signedState}
-use Rattle.shams.specs.Histories.{reserving, signing, fixedIndex, refusingAll, inventedCount, markingNothing, fixedSignature, writingNothing, firstHonest}
+use Rattle.shams.specs.Histories.{signing, fixedIndex, refusingAll, inventedCount, markingNothing, fixedSignature, writingNothing, firstHonest}
 
 -- room for a signature
 abbrev zeros : List ℕ

@@ -1,6 +1,6 @@
 // Wrong operations that the promises shut out, each by a theorem: no program that behaves like that could be proved.
-// Uses the promises; no other crate uses it.
-// Each must-fail edit puts the honest way in a sham's place: the theorem then says something false, and its proof is refused.
+// Uses the promises.
+// Nothing uses it. Each must-fail edit puts the honest way in a sham's place: the theorem then says something false.
 ghost use mathlib.Core.Path.{_≡_};
 ghost use Prim.Native.Nat.{ℕ};
 ghost use Rattle.rfc8391.specs.Suite.{Suite};

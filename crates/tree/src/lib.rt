@@ -1,5 +1,6 @@
 // The trees of RFC 8391: L-tree, leaf, node, path, and the root from a signature.
-// Uses onetime; the operations use it.
+// Uses onetime and what lies below it.
+// The records and checking use it.
 ghost use mathlib.Core.Path.{_≡_};
 ghost use Prim.Native.Nat.{_+_, _*_, _/_, _%_, _^_, _<_, _≤_};
 ghost use lib.ListN.{length, take};
