@@ -34,4 +34,4 @@ kept = Path("crates/promises/specs/Kept.antt").read_text()
 fields = set(re.findall(r"^    pub ([\w-]+) :", kept[kept.index("record Kept"):kept.index("AlwaysKept")], re.M))
 table = PAGE[PAGE.index("| field of `Kept` |"):PAGE.index("| the customer | promise |", PAGE.index("| field of `Kept` |"))]
 compare("field of Kept", fields, set(re.findall(r"`([a-z-]+)`", table)) - {"check"})
-sys.exit("\n".join(bad))
+sys.exit("\n".join(bad) or None)

@@ -165,6 +165,7 @@ pub fn take_chunk(
 ) -> Moved
     requires { ⌜ Ready (now frame) (now key) (now message) s ⌝ }
     requires { ⌜ (42 * length (now chunk) ≤ length (now out)) × (s .number + length (now chunk) < 2 ^ 64) ⌝ }
+    requires { ⌜ length (now frame) ≡ 16384 ⌝ }
     ensures { λ r. ⌜ Ready (now (frame .exit)) (now (key .exit)) (now (message .exit)) (r .state) ⌝ }
     ensures { λ r. ⌜ reached (now (frame .exit)) (now (key .exit)) (now (message .exit)) (now (out .exit)) r ≡ runOf (charStep (length (now (frame .entry))) answer) (sess (now (frame .entry)) (now (key .entry)) (now (message .entry)) s) (now (chunk .entry)) ⌝ }
     ensures { λ r. ⌜ (r .n ≤ length (now (out .entry))) × (r .state .number ≤ s .number + length (now (chunk .entry))) ⌝ }
@@ -191,6 +192,7 @@ pub fn end_input(
 ) -> Moved
     requires { ⌜ Ready (now frame) (now key) (now message) s ⌝ }
     requires { ⌜ (42 ≤ length (now out)) × (s .number + 1 < 2 ^ 64) ⌝ }
+    requires { ⌜ length (now frame) ≡ 16384 ⌝ }
     ensures { λ r. ⌜ reached (now (frame .entry)) (now (key .exit)) (now (message .exit)) (now (out .exit)) r ≡ endInput answer (sess (now (frame .entry)) (now (key .entry)) (now (message .entry)) s) ⌝ }
     ensures { λ r. ⌜ r .n ≤ length (now (out .entry)) ⌝ }
 {

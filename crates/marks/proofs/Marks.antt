@@ -8,8 +8,8 @@ use native.Mathlib.Nat.{eq-or-lt-of-le, le-of-suc-le-suc, not-suc-le-zero}
 use native.Mathlib.Omega.{arith}
 use lib.Dec.{eqb, ltb}
 use borrow.Author.Tests.{eq-eqb, eqb-true, lt-ltb, le-ltb, ltb-true, ltb-false}
-use Rattle.marks.specs.Page.{markUsed, usedBelow, orderedBelow, used}
-use Rattle.marks.proofs.Ordered.{Ordered, FirstUsed}
+use Rattle.marks.specs.Page.{markUsed, usedBelow, orderedBelow, used, Ordered}
+use Rattle.marks.proofs.Ordered.{FirstUsed}
 use Rattle.marks.proofs.Tests.{and-left, and-right}
 
 module _ (page : List ℕ) where

@@ -7,10 +7,6 @@ use lib.Dec.{ltb}
 use Rattle.lists.specs.Lists.{tab}
 use Rattle.marks.specs.Page.{markUsed}
 
--- no used mark below n comes after an unused one
-abbrev pub Ordered : List ℕ → ℕ → Type 0
-Ordered page n = (i j : ℕ) → i < j → j < n → markUsed page j ≡ true → markUsed page i ≡ true
-
 -- of the marks below n exactly the first u are used
 abbrev pub FirstUsed : List ℕ → ℕ → ℕ → Type 0
 FirstUsed page u n = (i : ℕ) → i < n → markUsed page i ≡ ltb i u

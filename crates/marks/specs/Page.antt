@@ -3,7 +3,7 @@ use mathlib.Core.Path.{_≡_}
 use mathlib.Core.Bool.{Bool, true, cond, not, _&&_, _||_}
 use mathlib.Core.List.{List}
 use mathlib.Core.Logic.{_⊎_}
-use Prim.Native.Nat.{ℕ, zero, suc, _-_, _/_, _%_, _^_, _≤_}
+use Prim.Native.Nat.{ℕ, zero, suc, _-_, _/_, _%_, _^_, _<_, _≤_}
 use lib.ListN.{length, getD, set}
 use lib.Dec.{eqb}
 
@@ -33,7 +33,11 @@ used page = usedBelow page 1024
 abbrev pub WellFormed : List ℕ → Type 0
 WellFormed page = (length page ≡ 128) × (orderedBelow page 1024 ≡ true)
 
--- a page of a range of indices: the marks below its first index are used from the start
+-- no used mark below n comes after an unused one, in plain words
+abbrev pub Ordered : List ℕ → ℕ → Type 0
+Ordered page n = (i j : ℕ) → i < j → j < n → markUsed page j ≡ true → markUsed page i ≡ true
+
+-- a page of a range of indices, where it is 0 every well formed one: the marks below its first index are used from the start
 abbrev pub Serves : ℕ → List ℕ → Type 0
 Serves first page = WellFormed page × (first ≤ used page)
 

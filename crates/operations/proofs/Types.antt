@@ -4,11 +4,17 @@ use mathlib.Core.Bool.{Bool, true, false}
 use Prim.Native.Nat.{ℕ, _+_, _*_, _≤_}
 use native.Mathlib.Omega.{arith}
 use lib.Dec.{eqb}
+use borrow.Author.Tests.{ne-eqb}
 use Rattle.lists.specs.Lists.{pick}
 use Rattle.rfc8391.specs.Formats.{keyType, pathStart, signatureLength}
 use Rattle.rfc8391.specs.declared.KeyType.{KeyType}
 use Rattle.rfc8391.specs.declared.KeyType.the-variants.{Served, Unknown}
 use Rattle.operations.specs.Check.{heightOf}
+
+-- no number but 1, 2 and 3 is a type
+pub no-type : (t : ℕ) → (t ≡ 1 → ⊥) → (t ≡ 2 → ⊥) → (t ≡ 3 → ⊥) → keyType t ≡ Unknown
+unfolding keyType
+no-type t not1 not2 not3 = rw (ne-eqb t 1 not1, ne-eqb t 2 not2, ne-eqb t 3 not3)
 
 lengthOf : KeyType → ℕ
 lengthOf (Served height length) = length

@@ -15,7 +15,7 @@ use Rattle.rfc8391.specs.declared.KeyType.the-variants.{Served}
 use Rattle.keyed.specs.Sha2.{sha2}
 use Rattle.operations.specs.Check.{typeOf, heightOf, Valid, checkRefusals}
 use Rattle.operations.proofs.Types.{served-as, known-is-served}
-use Rattle.promises.specs.Checking.{KeyFits, SignatureFits, RootAgrees, Numbers, Accepted}
+use Rattle.promises.specs.Checking.{KeyFits, SignatureFits, RootAgrees, CheckNumbers, Accepted}
 
 not-over : (a b : ℕ) → (a ≤ b → ⊥) → b < a
 not-over a b n = omega arith
@@ -51,7 +51,7 @@ module _ (S : Suite) (n32 : S .n ≡ 32) (key m sig : List ℕ) where
   unfolding ValidAt verify
   root-agrees = (subst ValidAt n32, subst ValidAt (sym n32))
 
-  pub numbers : Numbers S key m sig (outcomeOf (checkRefusals S key m sig))
+  pub numbers : CheckNumbers S key m sig (outcomeOf (checkRefusals S key m sig))
   unfolding checkRefusals
   numbers =
       let l = checkRefusals S key m sig in

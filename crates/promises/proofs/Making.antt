@@ -12,6 +12,7 @@ use Rattle.records.specs.Records.{recordLength, recordBytes, publicKey, materia
 use Rattle.records.specs.Keys.{madeRecord}
 use Rattle.operations.specs.Make.{makeRefusals, MakeEnd, makeEnd, makeOf}
 use Rattle.promises.specs.Making.{MakeNumbers, KeyPair}
+use Rattle.promises.specs.Kept.{secretFor, keyFor}
 
 module _ (t : ℕ) (material secret key : List ℕ) where
   make-outcome : makeOf t material secret key .answer .outcome ≡ outcomeOf (makeRefusals sha2 t material secret key)
@@ -49,3 +50,13 @@ module _ (t : ℕ) (material secret key : List ℕ) where
   pub make-pair : makeOf t material secret key .answer .outcome ≡ 0 → KeyPair material (makeOf t material secret key .secret) (makeOf t material secret key .key)
   unfolding makeOf madeRecord publicKeyOf sha2
   make-pair e = let z : outcomeOf (makeRefusals sha2 t material secret key) ≡ 0 = sym make-outcome ∙ e in rw z (record { public = refl; private = refl })
+
+-- a key pair is what making writes
+module _ (material secret key : List ℕ) (p : KeyPair material secret key) where
+  pub pair-secret : secret ≡ secretFor material
+  unfolding madeRecord sha2
+  pair-secret = p .private
+
+  pub pair-key : key ≡ keyFor material
+  unfolding madeRecord publicKeyOf sha2
+  pair-key = p .public

@@ -41,7 +41,7 @@ module _ (S : Suite) (key m sig : List ℕ) where
       ≡ keyFrom 32 key .root
 
   -- each number exactly when its condition holds and none earlier does
-  pub record Numbers (outcome : ℕ) : Type 0 where
+  pub record CheckNumbers (outcome : ℕ) : Type 0 where
     pub one : (outcome ≡ 1) ↔ (KeyFits → ⊥)
     pub two : (outcome ≡ 2) ↔ (KeyFits × TypeUnknown)
     pub three : (outcome ≡ 3) ↔ (KeyFits × (TypeUnknown → ⊥) × (SignatureFits → ⊥))

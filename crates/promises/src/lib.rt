@@ -6,15 +6,18 @@ ghost use mathlib.Core.List.{List};
 ghost use mathlib.Core.Logic.{_↔_};
 ghost use Prim.Native.Nat.{ℕ, _+_, _-_, _/_, _<_, _≤_};
 ghost use lib.ListN.{length};
-ghost use Rattle.rfc8391.specs.declared.KeyType.the-variants.{Unknown};
+ghost use Rattle.lists.specs.Bytes.{number};
 ghost use Rattle.keyed.specs.Sha2.{sha2};
-ghost use Rattle.marks.specs.Page.{used};
+ghost use Rattle.rfc8391.specs.Formats.{signatureBytes};
+ghost use Rattle.records.specs.Records.{recordFrom};
+ghost use Rattle.records.specs.Keys.{signedBy};
+ghost use Rattle.marks.specs.Page.{used, WellFormed, Ordered};
 ghost use Rattle.marks.specs.Marking.{MarkEnd, reserveOf, markEnd, markOf};
 ghost use Rattle.marks.specs.Shown.{ReserveNumbers, MarkNumbers, OneMark, StoredByte};
-ghost use Rattle.operations.specs.Check.{checkOf, typeOf};
+ghost use Rattle.operations.specs.Check.{checkOf};
 ghost use Rattle.operations.specs.Make.{MakeEnd, makeEnd, makeOf};
 ghost use Rattle.operations.specs.Sign.{SignEnd, signEnd, signOf};
-ghost use Rattle.promises.specs.Checking.{Numbers, Accepted};
+ghost use Rattle.promises.specs.Checking.{CheckNumbers, Accepted};
 ghost use Rattle.promises.specs.Making.{MakeNumbers, KeyPair};
 ghost use Rattle.promises.specs.Signing.{SignNumbers, signatureFor};
 ghost use Rattle.promises.specs.Table.{Table};
@@ -69,6 +72,11 @@ pub fn making_has_one_answer(kind: u32, material: &[u8], secret: &mut [u8], key:
 {
     operations::make(kind, material, secret, key)
 }
+
+// 7 is for a page that is "not 128 bytes, or a used mark after an unused one": a well formed page is what is neither.
+pub fn well_formed_pages_are_those_of_the_paper()
+    ensures { λ _. ⌜ ((page : List ℕ) → WellFormed page ↔ ((length page ≡ 128) × Ordered page 1024)) ⌝ }
+{}
 
 // Demand 1: each number of reserving exactly when its condition holds and none earlier does. Nothing is written.
 pub fn reserving_gives_each_number_exactly(page: &[u8], session: u32) -> Reserved
@@ -175,7 +183,20 @@ pub fn signatures_are_those_of_rfc_8391(
     message: &[u8],
     out: &mut [u8],
 ) -> Signed
-    ensures { λ r. ⌜ ((material : List ℕ) → length material ≡ 96 → now (secret .entry) ≡ secretFor material → r .outcome ≡ 0 → now (out .exit) ≡ signatureFor material (session - 1) (now (message .entry))) ⌝ }
+    ensures { λ r. ⌜ ((material key : List ℕ) → length material ≡ 96 → KeyPair material (now (secret .entry)) key → r .outcome ≡ 0 → now (out .exit) ≡ signatureFor material (session - 1) (now (message .entry))) ⌝ }
+{
+    operations::sign(secret, page, session, message, out)
+}
+
+// With any record that is not refused: "It writes all 2,500 bytes and returns session 0", by the seeds and the root that the record holds.
+pub fn signing_ends_the_session(
+    secret: &[u8],
+    page: &[u8],
+    session: u32,
+    message: &[u8],
+    out: &mut [u8],
+) -> Signed
+    ensures { λ r. ⌜ (r .outcome ≡ 0 → (r .session ≡ 0) × (now (out .exit) ≡ signatureBytes (signedBy sha2 (recordFrom 32 (now (secret .entry))) (session - 1) (now (message .entry))))) ⌝ }
 {
     operations::sign(secret, page, session, message, out)
 }
@@ -195,14 +216,15 @@ pub fn signing_has_one_answer(
 
 // Demand 1: "Every input gets one of the fixed numbered refusals or a result", each exactly when its condition holds.
 pub fn checking_gives_each_number_exactly(key: &[u8], message: &[u8], signature: &[u8]) -> Checked
-    ensures { λ r. ⌜ Numbers sha2 (now (key .entry)) (now (message .entry)) (now (signature .entry)) (r .outcome) ⌝ }
+    ensures { λ r. ⌜ CheckNumbers sha2 (now (key .entry)) (now (message .entry)) (now (signature .entry)) (r .outcome) ⌝ }
 {
     operations::check(key, message, signature)
 }
 
-// Demand 1: "An unknown key type is refused as unknown, before any signature is read": whatever message and signature are.
+// Demand 1: "An unknown key type is refused as unknown, before any signature is read": every number but 1, 2 and 3, whatever message and
+// signature are.
 pub fn unknown_type_is_refused_as_unknown(key: &[u8], message: &[u8], signature: &[u8]) -> Checked
-    ensures { λ r. ⌜ (length (now (key .entry)) ≡ 68 → typeOf (now (key .entry)) ≡ Unknown → r .outcome ≡ 2) ⌝ }
+    ensures { λ r. ⌜ (length (now (key .entry)) ≡ 68 → (number (now (key .entry)) 0 4 ≡ 1 → ⊥) → (number (now (key .entry)) 0 4 ≡ 2 → ⊥) → (number (now (key .entry)) 0 4 ≡ 3 → ⊥) → r .outcome ≡ 2) ⌝ }
 {
     operations::check(key, message, signature)
 }
@@ -231,7 +253,7 @@ pub fn checking_accepts_what_rfc_8391_accepts(
 
 // Demands 2 and 3 meet: what was signed with a key that making wrote is accepted for its message, for every index of the tree.
 pub fn honest_signature_is_accepted(key: &[u8], message: &[u8], signature: &[u8]) -> Checked
-    ensures { λ r. ⌜ ((material : List ℕ) (i : ℕ) → length material ≡ 96 → i < 1024 → length (now (message .entry)) ≤ 65536 → now (key .entry) ≡ keyFor material → now (signature .entry) ≡ signatureFor material i (now (message .entry)) → r .outcome ≡ 0) ⌝ }
+    ensures { λ r. ⌜ ((material secret : List ℕ) (i : ℕ) → length material ≡ 96 → i < 1024 → length (now (message .entry)) ≤ 65536 → KeyPair material secret (now (key .entry)) → now (signature .entry) ≡ signatureFor material i (now (message .entry)) → r .outcome ≡ 0) ⌝ }
 {
     operations::check(key, message, signature)
 }

@@ -12,18 +12,19 @@ use Rattle.lists.specs.Bytes.{number}
 use Rattle.outcomes.specs.Outcome.{outcomeOf}
 use Rattle.keyed.specs.Sha2.{sha2}
 use Rattle.marks.specs.Page.{used, markUsed, bitUsed}
+use Rattle.marks.specs.Marking.{markOf}
 use Rattle.marks.proofs.Ordered.{pageOf}
 use Rattle.marks.proofs.Pages.{fresh, page-counted}
 use Rattle.operations.specs.Sign.{SignEnd, signRefusals, signEnd, signed, signOf}
 use Rattle.operations.specs.declared.Signed.{Signed}
 use Rattle.operations.proofs.Signs.{stored, not-stored, sign-done}
-use Rattle.promises.specs.History.{Operations, Given, given, givenBy, State, state, Step, callOf, step, run, start}
+use Rattle.promises.specs.History.{Operations, Given, given, givenBy, State, state, Step, whole, lent, callOf, step, run, start}
 use Rattle.promises.specs.Kept.{secretFor, keyFor, indexOf, Distinct, threeCalls, Kept, AlwaysKept}
 use Rattle.promises.proofs.Phases.{signatureAt}
-use Rattle.promises.specs.declared.Kind.the-variants.{Signing}
+use Rattle.promises.specs.declared.Kind.the-variants.{Reserving, Signing}
 use Rattle.promises.proofs.Honest.{secret-size, secret-type}
 use Rattle.promises.proofs.Steps.{reserve-next, mark-stores, mark-stored, mark-refused, sign-gives, sign-holds, signedState}
-use Rattle.shams.specs.Histories.{signing, fixedIndex, refusingAll, inventedCount, markingNothing, fixedSignature, writingNothing, firstHonest}
+use Rattle.shams.specs.Histories.{signing, fixedIndex, refusingAll, inventedCount, markingNothing, fixedSignature, writingNothing, firstHonest, keepingSession, signingUnmarked}
 
 -- room for a signature
 abbrev zeros : List ℕ
@@ -163,3 +164,38 @@ module _ (material : List ℕ) (l : length material ≡ 96) where
       same : (p : List ℕ) (s : ℕ) (t : Bool) → pick t (signOf (secretFor material) p s [] zeros) (signEnd (signOf (secretFor material) p s [] zeros .answer) zeros) .answer ≡ signOf (secretFor material) p s [] zeros .answer
       same p s true = refl
       same p s false = refl
+
+  -- the same index signs twice
+  pub keeping-breaks : AlwaysKept (keepingSession (secretFor material)) (keyFor material) → ⊥
+  unfolding run step callOf
+  keeping-breaks kept =
+      let O = keepingSession (secretFor material) in
+      let σ = signatureAt (secretFor material) 0 [] in
+      let again : List Step = whole (lent Signing [] zeros) ∷ [] in
+      let done : signOf (secretFor material) (pageOf 1) 1 [] zeros ≡ signEnd (signed 0 0) σ =
+      sym (sign-done (secretFor material) (pageOf 1) 1 [] zeros _ (allowed 1 (omega arith) (omega arith)) refl) in
+      let gives : (gs : List Given) → signedState 1 gs [] (O .sign (pageOf 1) 1 [] zeros) ≡ state (pageOf 1) 1 (given [] σ ∷ gs) =
+      λ gs. ap (λ (x : SignEnd). signedState 1 gs [] (signEnd (signed (x .answer .outcome) 1) (x .out))) done in
+      let once : run O three start ≡ state (pageOf 1) 1 (given [] σ ∷ []) =
+      ap (run O three) begins ∙ three-calls (O .sign) 0 [] (omega arith) ∙ gives [] in
+      let twice : run O (three ++ again) start ≡ state (pageOf 1) 1 (given [] σ ∷ given [] σ ∷ []) =
+      ap (run O again) once ∙ gives (given [] σ ∷ []) in
+      subst (λ (st : State). Distinct (st .given)) twice (kept (three ++ again) .distinct) .0 .0 refl
+
+  -- reserving and signing, twice: the page never learns of the first signature
+  pub unmarked-breaks : AlwaysKept (signingUnmarked (secretFor material)) (keyFor material) → ⊥
+  unfolding run step callOf
+  unmarked-breaks kept =
+      let O = signingUnmarked (secretFor material) in
+      let σ = signatureAt (secretFor material) 0 [] in
+      let two : List Step = whole (lent Reserving [] []) ∷ whole (lent Signing [] zeros) ∷ [] in
+      let marks : markOf (pageOf 0) 1 .page ≡ pageOf 1 = ap (λ (st : State). st .page) (mark-stores 0 1 [] (omega arith) refl (omega arith)) in
+      let done : O .sign (pageOf 0) 1 [] zeros ≡ signEnd (signed 0 0) σ =
+      ap (λ (p : List ℕ). signOf (secretFor material) p 1 [] zeros) marks
+      ∙ sym (sign-done (secretFor material) (pageOf 1) 1 [] zeros _ (allowed 1 (omega arith) (omega arith)) refl) in
+      let turn : (gs : List Given) → run O two (state (pageOf 0) 0 gs) ≡ state (pageOf 0) 0 (given [] σ ∷ gs) =
+      λ gs. ap (run O (drop 1 two)) (reserve-next 0 0 gs (omega arith) refl (omega arith)) ∙ ap (signedState 0 gs []) done in
+      let once : run O two start ≡ state (pageOf 0) 0 (given [] σ ∷ []) = ap (run O two) begins ∙ turn [] in
+      let twice : run O (two ++ two) start ≡ state (pageOf 0) 0 (given [] σ ∷ given [] σ ∷ []) =
+      ap (run O two) once ∙ turn (given [] σ ∷ []) in
+      subst (λ (st : State). Distinct (st .given)) twice (kept (two ++ two) .distinct) .0 .0 refl

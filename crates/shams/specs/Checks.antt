@@ -15,7 +15,7 @@ use Rattle.rfc8391.specs.Wots.{wotsPkFromSig}
 use Rattle.rfc8391.specs.Xmss.{Signature, PublicKey, otsAt, ltreeAt, messageDigest, ltree, rootFromPath}
 use Rattle.rfc8391.specs.Formats.{keyFrom, signatureFrom, singleTree}
 use Rattle.operations.specs.Check.{typeOf, heightOf, checkRefusals}
-use Rattle.promises.specs.Checking.{Numbers, Accepted}
+use Rattle.promises.specs.Checking.{CheckNumbers, Accepted}
 
 -- a way of checking gives an outcome for a key, a message and a signature
 abbrev pub Checking : Type 0
@@ -23,7 +23,7 @@ Checking = List ℕ → List ℕ → List ℕ → ℕ
 
 -- it keeps what is promised of checking
 pub record Kept (S : Suite) (check : Checking) : Type 0 where
-  pub numbers : (key m sig : List ℕ) → Numbers S key m sig (check key m sig)
+  pub numbers : (key m sig : List ℕ) → CheckNumbers S key m sig (check key m sig)
   pub accepted : (key m sig : List ℕ) → (check key m sig ≡ 0) ↔ Accepted S key m sig
 
 module _ (S : Suite) where

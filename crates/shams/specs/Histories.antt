@@ -47,3 +47,12 @@ module _ (secret : List ℕ) where
   abbrev pub firstHonest : Operations
   firstHonest =
       signing (λ page s m out. pick (eqb s 1) (signOf secret page s m out) (signEnd (signOf secret page s m out .answer) (replicate 2500 0)))
+
+  -- signing that keeps the session: the index stays pending
+  abbrev pub keepingSession : Operations
+  keepingSession =
+      signing (λ page s m out. signEnd (signed (signOf secret page s m out .answer .outcome) s) (signOf secret page s m out .out))
+
+  -- signing for a pending index whose mark is not stored, as if it were
+  abbrev pub signingUnmarked : Operations
+  signingUnmarked = signing (λ page s m out. signOf secret (markOf page s .page) s m out)

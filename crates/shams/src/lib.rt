@@ -8,7 +8,7 @@ ghost use mathlib.Core.List.{List};
 ghost use lib.ListN.{length};
 ghost use Rattle.promises.specs.Kept.{secretFor, keyFor, AlwaysKept};
 ghost use Rattle.shams.specs.Toy.{toy};
-ghost use Rattle.shams.specs.Histories.{fixedIndex, refusingAll, inventedCount, markingNothing, fixedSignature, writingNothing, firstHonest};
+ghost use Rattle.shams.specs.Histories.{fixedIndex, refusingAll, inventedCount, markingNothing, fixedSignature, writingNothing, firstHonest, keepingSession, signingUnmarked};
 ghost use Rattle.shams.specs.Checks.{Kept, honest, fixed, refusing, oneChain};
 
 // That the promises can be kept: the honest way keeps them, over any suite with values of 32 bytes.
@@ -55,4 +55,12 @@ pub fn one_honest_signature_breaks_demand_three()
 
 pub fn one_fixed_signature_breaks_demand_three()
     ensures { λ _. ⌜ ((material signature : List ℕ) → length material ≡ 96 → AlwaysKept (fixedSignature (secretFor material) signature) (keyFor material) → ⊥) ⌝ }
+{}
+
+pub fn keeping_the_session_breaks_demand_three()
+    ensures { λ _. ⌜ ((material : List ℕ) → length material ≡ 96 → AlwaysKept (keepingSession (secretFor material)) (keyFor material) → ⊥) ⌝ }
+{}
+
+pub fn signing_without_its_mark_breaks_demand_three()
+    ensures { λ _. ⌜ ((material : List ℕ) → length material ≡ 96 → AlwaysKept (signingUnmarked (secretFor material)) (keyFor material) → ⊥) ⌝ }
 {}

@@ -70,7 +70,7 @@ take-chunk-requires : tie.Need-take-chunk-requires Inv-loop μ-loop
 take-chunk-requires c κs =
     let q = few (c .before .before .before .before .before .before .before) in
     let l = c .before .before .before .before .before .before .before .before .before .before .loop in
-    (l .inv .5, (omega (arith, q, l .inv .3), omega (arith, q, l .inv .7)))
+    (l .inv .5, ((omega (arith, q, l .inv .3), omega (arith, q, l .inv .7)), sym (l .inv .0)))
 
 -- what take_chunk wrote lies in the buffer
 wrote : (c : tie.After-take-chunk Inv-loop μ-loop) → c .take-chunk .result .n ≤ length (c .take-chunk .last .1 .1 .1 .1 .1 .0)
@@ -123,7 +123,7 @@ slice-aggregate-end-input-4 c = search needs
 end-input-requires : tie.Need-end-input-requires Inv-loop μ-loop
 end-input-requires c κs =
     let l = c .before .before .before .before .before .loop in
-    (l .inv .5, (omega (arith, l .inv .3), omega (arith, l .inv .7)))
+    (l .inv .5, ((omega (arith, l .inv .3), omega (arith, l .inv .7)), sym (l .inv .0)))
 
 -- and what end_input wrote
 said : (c : tie.After-end-input Inv-loop μ-loop) → c .end-input .result .n ≤ length (c .end-input .last .1 .1 .1 .1 .0)
