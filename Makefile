@@ -2,7 +2,7 @@
 .DEFAULT_GOAL := help
 SHELL := bash
 .SHELLFLAGS := -euo pipefail -c
-.PHONY: help run library install test bench fmt cases clean
+.PHONY: help run library install test fuzz bench fmt cases clean
 
 help: ## this list
 	@sed -n 's/^\([a-z]*\):.*## /  make \1	/p' $(MAKEFILE_LIST) | expand -t 16
@@ -49,10 +49,20 @@ install: $(LIBRARY) ## library, headers, pkg-config and CMake files, the checkin
 target/native/libzabrintoly.a: $(LIBRARY) tools/native-library
 	@tools/native-library target/native
 
+# The same once more, compiled so that a fuzzer can follow its branches.
+target/covered/libzabrintoly.a: $(LIBRARY) tools/native-library
+	@tools/native-library target/covered covered -fsanitize-coverage=inline-8bit-counters,pc-table,trace-cmp
+
 test: ## the gate: every proof from nothing, must-fail edits, programs, tests outside Rattle
 	@.ci/run
 
-bench: ## SHA-256, a leaf, making, signing and a check beside plain C, and the last three beside Botan and Bouncy Castle
+SECONDS ?= 600
+
+fuzz: ## fuzz every export for SECONDS=600, on what earlier runs found in target/fuzz
+	@tests/setup
+	@tests/fuzz/run $(SECONDS)
+
+bench: ## SHA-256, a leaf, making, signing and a check beside plain C, the last three beside Botan and Bouncy Castle; the stack of each call
 	@bench/run
 
 fmt: ## lay out every .rt and .antt file
