@@ -35,7 +35,7 @@ void expect(const char *what, std::uint32_t expected, std::uint32_t got) {
     if (expected != got) differs(what, expected, got);
 }
 
-void expect_unchanged(const char *what, const Lent &lent) {
+void expect_content(const char *what, const Lent &lent) {
     if (lent.as_expected()) return;
     std::fprintf(stderr, "fuzz: DIFFERENCE: %s is not what it must be, or a byte beside it was written\n", what);
     std::abort();
@@ -121,9 +121,9 @@ void fuzz_make(Choices &choices, Way way) {
     } else {
         call();
     }
-    expect_unchanged("the material", material);
-    expect_unchanged("the secret record", secret);
-    expect_unchanged("the key", key);
+    expect_content("the material", material);
+    expect_content("the secret record", secret);
+    expect_content("the key", key);
     count(way, make, expected);
 }
 
@@ -136,7 +136,7 @@ void fuzz_reserve(Choices &choices, Way way) {
     expect("the session of reserving", expected.session, answer.session);
     expect("the place of reserving", expected.place, answer.place);
     expect("the value of reserving", expected.value, answer.value);
-    expect_unchanged("the page", page);
+    expect_content("the page", page);
     count(way, reserve, expected.outcome);
 }
 
@@ -153,7 +153,7 @@ void fuzz_mark(Choices &choices, Way way) {
     const Answer answer = call_mark(way, page, session);
     expect("the outcome of marking", expected.outcome, answer.outcome);
     expect("the session of marking", session, answer.session);
-    expect_unchanged("the page", page);
+    expect_content("the page", page);
     count(way, mark, expected.outcome);
 }
 
@@ -198,10 +198,10 @@ void fuzz_sign(Choices &choices, Way way) {
     } else {
         call();
     }
-    expect_unchanged("the secret record", secret);
-    expect_unchanged("the page", page);
-    expect_unchanged("the message", message);
-    expect_unchanged("the signature", out);
+    expect_content("the secret record", secret);
+    expect_content("the page", page);
+    expect_content("the message", message);
+    expect_content("the signature", out);
     count(way, sign, expected);
 }
 
@@ -230,9 +230,9 @@ void fuzz_check(Choices &choices, Way way) {
         call();
     else if (!patience[way == Way::cpp].check.spent_on(call))
         return;
-    expect_unchanged("the key", key);
-    expect_unchanged("the message", message);
-    expect_unchanged("the signature", signature);
+    expect_content("the key", key);
+    expect_content("the message", message);
+    expect_content("the signature", signature);
     count(way, check, expected);
 }
 

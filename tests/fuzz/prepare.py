@@ -12,7 +12,7 @@ import xmss
 OPERATIONS, WAYS, CHECK = range(5), range(2), 4
 # Zeros choose what an honest caller gives; each of these bytes in place of one chooses something else, as choices.hpp has it
 HONEST = bytes(16)
-OTHER = [8, 9, 10, 12, 13, 14, 15, 130, 135, 150, 170, 200, 230, 255]
+OTHER = [8, 9, 10, 12, 13, 14, 15, 130, 135, 150, 170, 199, 200, 230, 255]
 
 
 def accepted():

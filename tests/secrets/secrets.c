@@ -56,13 +56,14 @@ static void making(void) {
     expect_secret("key, public seed", key, KEY_PUBLIC_SEED, ZAB_KEY_SIZE, 0);
 }
 
-static void signing(void) {
+// The record is marked from the secret seed up to a part that is public, or may be: the message key decides r, which the signature shows.
+static void signing(size_t end_of_secrets) {
     static const uint8_t message[] = "class 3 stands where class 2.1 should";
     uint8_t secret[ZAB_SECRET_SIZE] = {0, 0, 0, ZAB_XMSS_SHA2_10_256}, page[ZAB_PAGE_SIZE], out[ZAB_SIGNATURE_SIZE];
     fill(secret + RECORD_SECRET_SEED, ZAB_SECRET_SIZE - RECORD_SECRET_SEED);
     memset(page, ZAB_UNUSED_MARKS, sizeof page);
     page[0] = 0x03; // index 5 is the last used one
-    VALGRIND_MAKE_MEM_UNDEFINED(secret + RECORD_SECRET_SEED, RECORD_MESSAGE_KEY - RECORD_SECRET_SEED);
+    VALGRIND_MAKE_MEM_UNDEFINED(secret + RECORD_SECRET_SEED, end_of_secrets - RECORD_SECRET_SEED);
     const zab_signed answer = zab_sign(secret, sizeof secret, page, sizeof page, 6, message, sizeof message - 1, out, sizeof out);
     expect_done(answer.outcome);
     expect_secret("session", (const uint8_t *)&answer.session, 0, sizeof answer.session, 0);
@@ -71,10 +72,13 @@ static void signing(void) {
 }
 
 int main(int count, char **words) {
-    if (count == 2 && strcmp(words[1], "making") == 0)
+    const char *operation = count == 2 ? words[1] : "";
+    if (strcmp(operation, "making") == 0)
         making();
-    else if (count == 2 && strcmp(words[1], "signing") == 0)
-        signing();
+    else if (strcmp(operation, "signing") == 0)
+        signing(RECORD_MESSAGE_KEY);
+    else if (strcmp(operation, "signing-with-message-key-marked") == 0)
+        signing(RECORD_PUBLIC_SEED);
     else
         return 2;
     return bad;
