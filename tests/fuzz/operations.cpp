@@ -68,7 +68,7 @@ class Patience {
     clock::duration spent_{};
 };
 struct Patiences {
-    Patience make{16}, sign{16}, check{5};
+    Patience make{16}, sign{16}, check{4};
 };
 Patiences patience[2];
 

@@ -13,6 +13,8 @@ OPERATIONS, WAYS, CHECK = range(5), range(2), 4
 # Zeros choose what an honest caller gives; each of these bytes in place of one chooses something else, as choices.hpp has it
 HONEST = bytes(16)
 OTHER = [8, 9, 10, 12, 13, 14, 15, 130, 135, 150, 170, 199, 200, 230, 255]
+# In a check, after the signature's number: the key as it is, and one bit changed in the signature's last byte
+LAST_BYTE_DAMAGED = bytes([0, 193, 64])
 
 
 def accepted():
@@ -40,14 +42,16 @@ def pairs():
 
 
 def seeds(signatures):
-    """From C and from C++: an honest call of each operation, such calls with one thing wrong, and a check of each signature."""
+    """From C and from C++: an honest call of each operation, such calls with one thing wrong, and checks of each signature."""
     for way in WAYS:
         for operation in OPERATIONS:
             first = bytes([len(OPERATIONS) * way + operation])
             yield first + HONEST
             yield from (first + HONEST[:place] + bytes([other]) + HONEST[place:] for place in range(len(HONEST)) for other in OTHER)
-        for number in range(1, signatures):
-            yield bytes([len(OPERATIONS) * way + CHECK, number]) + HONEST
+        for number in range(signatures):
+            check = bytes([len(OPERATIONS) * way + CHECK, number])
+            yield check
+            yield check + LAST_BYTE_DAMAGED + bytes([number % 8])
 
 
 def fields(records):
