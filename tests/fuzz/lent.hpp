@@ -48,11 +48,18 @@ struct Wanted {
     bool null;
 };
 
+// How many were lent of two kinds that a caller seldom gives: null ones, and those whose length needs more than 31 bits.
+inline unsigned long null_buffers, long_buffers;
+
 // A buffer with what it held when it was lent. Its neighbours are watched with it.
 class Lent {
   public:
     Lent(const Region &region, const Wanted &wanted) : length_(wanted.length) {
-        if (length_ == 0 && wanted.null) return;
+        long_buffers += length_ >> 31 != 0;
+        if (length_ == 0 && wanted.null) {
+            null_buffers++;
+            return;
+        }
         data_ = region.part(length_, wanted.last);
         watched_ = data_ - std::min<std::ptrdiff_t>(margin, data_ - region.begin());
         std::uint8_t *own_end = data_ + std::min(length_, watched_bytes);

@@ -236,10 +236,11 @@ void fuzz_check(Choices &choices, Way way) {
     count(way, check, expected);
 }
 
-// How much of the library was reached, and a line for each operation, way and outcome that was seen, with how often it was.
+// How much of the library was reached, how many odd buffers it was lent, and how often each operation gave each outcome in each way.
 void write_outcomes() {
     std::ofstream out(folder + "/outcomes");
     out << "reached " << library_edges_reached() << " of " << library_edges() << '\n';
+    out << "lent " << null_buffers << ' ' << long_buffers << '\n';
     for (int way = 0; way < 2; way++)
         for (int operation = 0; operation < operations; operation++)
             for (int outcome = 0; outcome < 13; outcome++)
