@@ -47,11 +47,11 @@ install: $(LIBRARY) ## library, headers, pkg-config and CMake files, the checkin
 
 # The same for programs of this machine, where it is no x86-64.
 target/native/libzabrintoly.a: $(LIBRARY) tools/native-library
-	@tools/native-library target/native
+	@tools/native-library zabrintoly target/native
 
 # The same once more, compiled so that a fuzzer can follow its branches.
 target/covered/libzabrintoly.a: $(LIBRARY) tools/native-library
-	@tools/native-library target/covered covered -fsanitize-coverage=inline-8bit-counters,pc-table,trace-cmp
+	@tools/native-library zabrintoly target/covered covered -fsanitize-coverage=inline-8bit-counters,pc-table,trace-cmp
 
 test: ## the gate: every proof from nothing, must-fail edits, programs, tests outside Rattle
 	@.ci/run

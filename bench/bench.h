@@ -1,10 +1,11 @@
-// What the benchmark compares: plain C, the proved layers that crates/probe exports, and Botan.
+// What the benchmark compares: plain C, our library and the inner layers that crates/probe exports, and Botan.
 #ifndef ZABRINTOLY_BENCH_H
 #define ZABRINTOLY_BENCH_H
 
 #include <stdbool.h>
 #include <stddef.h>
 #include <stdint.h>
+#include <zabrintoly.h>
 
 #ifdef __cplusplus
 extern "C" {
@@ -44,12 +45,6 @@ void plain_sha256(const uint8_t *message, size_t length, uint8_t out[32]);
 
 void zab_probe_sha256(const uint8_t *message, size_t length, uint8_t out[32]);
 void zab_probe_leaf(const uint8_t secret[32], const uint8_t public_seed[32], uint32_t leaf, uint8_t out[32]);
-uint32_t zab_probe_make(uint32_t kind, const uint8_t *material, size_t material_length, uint8_t *secret, size_t secret_length, uint8_t *key,
-                        size_t key_length);
-uint32_t zab_probe_sign(const uint8_t *secret, size_t secret_length, const uint8_t *page, size_t page_length, uint32_t session,
-                        const uint8_t *message, size_t message_length, uint8_t *out, size_t out_length);
-uint32_t zab_probe_check(const uint8_t *key, size_t key_length, const uint8_t *message, size_t message_length, const uint8_t *signature,
-                         size_t signature_length);
 
 // Leaves Botan's SHA-256 these instructions and no others. False where it then has not just these: the machine lacks one.
 bool botan_may_use(bool sha, bool bmi2);
