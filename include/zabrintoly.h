@@ -18,7 +18,8 @@
  *
  * HOW TO CHECK
  *   One call of zab_check. Take the file where it answers 0, and only there. Tell the other numbers apart in what you say to people:
- *   ZAB_TYPE_NOT_SERVED means that a newer checker is needed, not that the file is damaged.
+ *   ZAB_TYPE_NOT_SERVED means that a newer checker is needed, not that the file is damaged. With an empty signature the answer is
+ *   ZAB_SIGNATURE_LENGTH exactly where the key is one that is served.
  *
  * HOW TO SIGN
  *   An index that signs two messages gives the key away. The page of marks says which indices are used; it is stored beside the
@@ -30,6 +31,7 @@
  *     5. zab_sign with the page as read and the session. It answers ZAB_SESSION_DOES_NOT_FIT where the mark is not in the page.
  *     6. Go on with the session that it hands back: 0 after a signature.
  *
+ *   A call of zab_sign with session 0 signs nothing, and names what it would refuse in record and message before an index is spent.
  *   After a restart begin with session 0. A mark that was stored without a signature is lost; the next index is taken.
  *   Never make a page anew for a key that has signed, and never bring an old copy of one back: its indices would be used twice.
  *   examples/converter does all of this.

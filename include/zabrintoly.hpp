@@ -136,10 +136,18 @@ struct [[nodiscard]] Signed {
 namespace detail {
 
 // An array that the library writes to in place of the caller's buffer, so that no two buffers of a call overlap. It has one byte more
-// than is written: where the caller's buffer is longer, this length stands for it, as one that is wrong.
+// than is written: where the caller's buffer is longer, this length stands for it, as one that is wrong. It is wiped at the end: the
+// record that it may hold stays in the caller's hands alone.
 template <std::size_t Size> class Own {
   public:
     explicit Own(Buffer out) noexcept : out_(out) {}
+    Own(const Own &) = delete;
+    Own &operator=(const Own &) = delete;
+    ~Own() {
+        for (volatile std::uint8_t &byte : bytes_) {
+            byte = 0;
+        }
+    }
     [[nodiscard]] std::uint8_t *data() noexcept { return bytes_.data(); }
     [[nodiscard]] std::size_t size() const noexcept { return std::min(out_.size(), Size + 1); }
     void hand_over() const noexcept { std::copy_n(bytes_.begin(), Size, out_.begin()); }
@@ -203,6 +211,17 @@ inline Signed sign(Bytes secret, Bytes page, Session session, Bytes message, Buf
 
 // The type that a key or a secret record names, for a message to people; nothing where it is too short to name one.
 [[nodiscard]] constexpr std::optional<std::uint32_t> type_of(Bytes key) noexcept { return detail::first_number(key); }
+
+// The public key that belongs to a secret record, for comparing it with a page's or a file's; nothing where it is no record's length.
+[[nodiscard]] inline std::optional<std::array<std::uint8_t, key_size>> public_key_of(Bytes secret) noexcept {
+    if (secret.size() != secret_size) {
+        return std::nullopt;
+    }
+    const Bytes type = secret.first(4), public_seed = secret.subspan(68, 32), root = secret.subspan(100, 32);
+    std::array<std::uint8_t, key_size> key;
+    std::ranges::copy(public_seed, std::ranges::copy(root, std::ranges::copy(type, key.begin()).out).out);
+    return key;
+}
 
 // The index that a signature carries; nothing where it is too short to carry one.
 [[nodiscard]] constexpr std::optional<std::uint32_t> index_of(Bytes signature) noexcept { return detail::first_number(signature); }

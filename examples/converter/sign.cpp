@@ -32,14 +32,6 @@ void refuse_what_signing_would(const Path &secret, Bytes record, const Path &tab
     }
 }
 
-// Record: type (4), secret seed, message key, public seed, root. Key: type (4), root, public seed.
-Content public_key_of(Bytes record) {
-    Content key(record.begin(), record.begin() + 4);
-    key.insert(key.end(), record.begin() + 100, record.end());
-    key.insert(key.end(), record.begin() + 68, record.begin() + 100);
-    return key;
-}
-
 void refuse_unless_one_key(const KeyFiles &files, const PageFile &page, Bytes key) {
     page.refuse_unless_of(key, files.secret);
     const Content given_out = read_file(files.key, zabrintoly::key_size);
@@ -101,7 +93,7 @@ std::uint32_t sign_table(const KeyFiles &files, const Path &table_path, Waiting 
     const Secret record(read_file(files.secret, zabrintoly::secret_size));
     const Content table = read_file(table_path, zabrintoly::message_limit);
     refuse_what_signing_would(files.secret, record.bytes, table_path, table);
-    const Content key = public_key_of(record.bytes);
+    const auto key = zabrintoly::public_key_of(record.bytes).value();
     refuse_unless_one_key(files, page, key);
 
     // 3. The first unused index. The session begins empty at each start: what an earlier run had pending is lost with it.

@@ -24,6 +24,7 @@ static_assert(std::is_nothrow_invocable_v<decltype(mark), Buffer, Session>);
 static_assert(std::is_nothrow_invocable_v<decltype(sign), Bytes, Bytes, Session, Bytes, Buffer>);
 static_assert(std::is_nothrow_invocable_v<decltype(check), Bytes, Bytes, Bytes>);
 static_assert(std::is_nothrow_invocable_v<decltype(type_of), Bytes> && std::is_nothrow_invocable_v<decltype(index_of), Bytes>);
+static_assert(std::is_nothrow_invocable_v<decltype(public_key_of), Bytes>);
 static_assert(std::is_nothrow_invocable_v<decltype(text), Outcome>);
 
 namespace {
@@ -66,6 +67,8 @@ Results plain() {
     expect(answer.outcome == Outcome::done && !answer.session.pending_index(), "a signature is made, and the session is empty");
     expect(check(all.key, message, all.signature) == Outcome::done, "the signature is accepted");
     expect(type_of(all.key) == xmss_sha2_10_256 && index_of(all.signature) == 4U, "type and index are read");
+    const auto key = public_key_of(all.secret);
+    expect(key && std::ranges::equal(*key, all.key), "a record's key is the key that was made with it");
     return all;
 }
 
@@ -166,6 +169,7 @@ void empty_spans() {
     expect(sign({}, {}, Session::after_restart(), {}, {}).outcome == Outcome::input_length, "signing with nothing");
     expect(check({}, {}, {}) == Outcome::input_length, "checking with nothing");
     expect(!type_of({}) && !index_of(Content(3)), "no type and no index in too few bytes");
+    expect(!public_key_of({}) && !public_key_of(Content(secret_size + 1)), "no key of what is no record");
 }
 
 void texts() {
