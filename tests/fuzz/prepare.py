@@ -1,12 +1,13 @@
 """Writes what the fuzzer starts from to the folder $1: signatures and pairs of the independent program, and seeds/, a file an input.
 
-The signatures are the stored ones that are accepted, and one of a message of 65,536 bytes. The pairs are those of whole_keys.
+The signatures are the stored ones that are accepted, and one of a message of 65,536 bytes. The pairs are
+those of the stored script of calls.
 """
 import sys
 from pathlib import Path
 
+import call_cases
 import limits
-import whole_keys
 import xmss
 
 OPERATIONS, WAYS, CHECK = range(5), range(2), 4
@@ -34,11 +35,13 @@ def at_the_limit():
 
 
 def pairs():
-    """Material, record, key, index, message and signature of each whole key."""
-    lines = [bytes.fromhex(line[10:]) for line in Path("crates/whole_keys/stdout").read_text().splitlines()]
-    for (number, index, message), root, signature in zip(whole_keys.CASES, lines[::3], lines[1::3]):
-        material, kind = whole_keys.material(number), xmss.to_byte(1, 4)
-        yield material, kind + material + root, kind + root + material[64:], xmss.to_byte(index, 4), message, signature
+    """Material, record, key, index, message and signature of each signature in the stored script of calls."""
+    lines = [line.split() for line in Path("crates/call_script/stdout").read_text().splitlines()]
+    _, _, record, key = next(line for line in lines if line[:2] == ["make", "0"])
+    signatures = [line[3] for line in lines if line[:2] == ["sign", "0"]]
+    for (index, length), signature in zip(call_cases.SIGNATURES, signatures, strict=True):
+        made = bytes.fromhex(record), bytes.fromhex(key)
+        yield call_cases.MATERIALS[0], *made, xmss.to_byte(index, 4), limits.message(length), bytes.fromhex(signature)
 
 
 def seeds(signatures):
@@ -67,4 +70,4 @@ if __name__ == "__main__":
     inputs = list(seeds(len(signatures)))
     for place, seed in enumerate(inputs):
         (folder / "seeds" / f"{place:04}").write_bytes(seed)
-    print(f"{len(signatures)} signatures, {len(whole_keys.CASES)} pairs, {len(inputs)} seeds")
+    print(f"{len(signatures)} signatures, {len(call_cases.SIGNATURES)} pairs, {len(inputs)} seeds")
