@@ -263,10 +263,12 @@ def disk_fails_under_signing(room, calls):
     print(f"sign: {len(calls) - 1} calls failed, {spent} of them with a mark stored; {len(indices)} signatures, no index twice", flush=True)
 
 
-def main(program, kind):
+def main(built, kind):
     with tempfile.TemporaryDirectory() as name:
         at = Path(name)
         os.umask(0)
+        # Nobody may not be allowed where it was built.
+        program = shutil.copy(built, at / "converter")
         good, other, fresh = (Room(at / part, program) for part in ("good", "other", "fresh"))
         making = good.calls("make-key")
         modes = {name: stat.S_IMODE((good.yard / name).stat().st_mode) for name in NAMES}
