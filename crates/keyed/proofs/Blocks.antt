@@ -21,7 +21,8 @@ pub keyed-by-one : (number : ℕ) (key m : List ℕ) (s : State) (r : List ℕ) 
     → r ≡ finished s 1 m → r ≡ keyed number key m
 unfolding keyed
 keyed-by-one number key m s r h es er =
-    er ∙ ap (λ (v : State). finished v 1 m) es ∙ sym (sha256-splits 1 (toByte number 32 ++ key) m (first-block number key h)) ∙ ap sha256 (append-assoc (toByte number 32) key m)
+    er ∙ ap (λ (v : State). finished v 1 m) es ∙ sym (sha256-splits 1 (toByte number 32 ++ key) m (first-block number key h))
+    ∙ ap sha256 (append-assoc (toByte number 32) key m)
 
 -- two more halves are a second block
 second-block : (number : ℕ) (key a b m : List ℕ) (s t : State) (r : List ℕ) → length key ≡ 32 → length a ≡ 32 → length b ≡ 32

@@ -2,4 +2,5 @@
 pub mod Keyed
 pub mod Values
 pub mod Sha2
+pub mod Suites
 pub mod Seeds

@@ -1,76 +1,93 @@
-// F, H, PRF and the message hash of RFC 8391 over SHA-256, and seeds that are prepared once.
+// F, H, PRF and the message hash of RFC 8391 by the hash of a key type, a file a suite, and seeds that are prepared once.
 // Uses sha256 and rfc8391.
-// Chains and trees use it. Contracts above speak of suiteOf a seed and not of SHA-256, so that another hash changes nothing there.
+// Chains and trees use it. A seed carries its hash, and contracts above speak of suiteOf a seed: a further hash changes nothing there.
 ghost use mathlib.Core.Path.{_≡_};
 ghost use mathlib.Core.List.{_++_};
-ghost use Rattle.lists.specs.Bytes.{toByte};
-ghost use Rattle.sha256.specs.Sha256.{H₀, hashed};
+ghost use Prim.Native.Nat.{_≤_};
 ghost use Rattle.rfc8391.specs.Xmss.{messageDigest};
-ghost use Rattle.keyed.specs.Sha2.{sha2};
-ghost use Rattle.keyed.specs.Seeds.{suiteOf, Prepared};
+ghost use Rattle.rfc8391.specs.Formats.{valueLength};
+ghost use Rattle.keyed.specs.Suites.{suite};
+ghost use Rattle.keyed.specs.Seeds.{suiteOf, held, seedOf, Prepared};
+use rfc8391::Hash;
 use sha256::State;
+
+mod sha2;
+
+// How many bytes a value has: of the 32 in which it is held, the first so many count.
+pub fn value_length(hash: Hash) -> usize
+    ensures { λ r. ⌜ (r ≡ valueLength hash) × (r ≤ 32) ⌝ }
+{
+    match hash {
+        Hash::Sha2 => 32,
+    }
+}
 
 // A seed, with the hash value after the block that never changes: one compression less for every key and mask.
 pub struct Seed {
+    pub hash: Hash,
     pub bytes: [u8; 32],
     pub mid: State,
 }
 
-// The hash value after one block of two halves.
-fn after(s: State, a: [u8; 32], b: [u8; 32]) -> State
-    ensures { λ r. ⌜ r ≡ hashed 1 s (a ++ b) ⌝ }
+pub fn prepare(hash: Hash, bytes: [u8; 32]) -> Seed
+    ensures { λ r. ⌜ Prepared r × (r .bytes ≡ bytes) × (suiteOf r ≡ suite hash) ⌝ }
 {
-    let block = sha256::joined(a, b);
-    sha256::absorb(s, &block)
-}
-
-// The hash value after a function's number and its key.
-fn keyed_by(number: u32, key: [u8; 32]) -> State
-    ensures { λ r. ⌜ r ≡ hashed 1 H₀ (toByte number 32 ++ key) ⌝ }
-{
-    after(sha256::start(), rfc8391::to_bytes(number), key)
-}
-
-pub fn prepare(bytes: [u8; 32]) -> Seed
-    ensures { λ r. ⌜ Prepared r × (r .bytes ≡ bytes) × (suiteOf r ≡ sha2) ⌝ }
-{
-    let mid = keyed_by(3, bytes);
-    Seed { bytes, mid }
+    let mid = sha2::keyed_by(3, bytes);
+    Seed { hash, bytes, mid }
 }
 
 // Another seed of the same suite.
 pub fn prepare_like(s: Seed, bytes: [u8; 32]) -> Seed
     ensures { λ r. ⌜ Prepared r × (r .bytes ≡ bytes) × (suiteOf r ≡ suiteOf s) ⌝ }
 {
-    prepare(bytes)
+    let hash = s.hash;
+    prepare(hash, bytes)
+}
+
+// How many bytes of a value count in the suite of a seed.
+pub fn value_length_of(s: Seed) -> usize
+    ensures { λ r. ⌜ (r ≡ suiteOf s .n) × (r ≤ 32) ⌝ }
+{
+    let hash = s.hash;
+    value_length(hash)
 }
 
 pub fn prf(s: Seed, input: [u8; 32]) -> [u8; 32]
     requires { ⌜ Prepared s ⌝ }
-    ensures { λ r. ⌜ r ≡ suiteOf s .PRF (s .bytes) input ⌝ }
+    ensures { λ r. ⌜ held s r ≡ suiteOf s .PRF (seedOf s) input ⌝ }
 {
+    let hash = s.hash;
     let mid = s.mid;
-    sha256::finish_half(mid, 1, input)
+    match hash {
+        Hash::Sha2 => sha256::finish_half(mid, 1, input),
+    }
 }
 
 // The suite is the seed's, here and below; the seed itself is not hashed.
 pub fn f(s: Seed, key: [u8; 32], input: [u8; 32]) -> [u8; 32]
-    ensures { λ r. ⌜ r ≡ suiteOf s .F key input ⌝ }
+    ensures { λ r. ⌜ held s r ≡ suiteOf s .F (held s key) (held s input) ⌝ }
 {
-    sha256::finish_half(keyed_by(0, key), 1, input)
+    let hash = s.hash;
+    match hash {
+        Hash::Sha2 => sha2::f(key, input),
+    }
 }
 
 pub fn h(s: Seed, key: [u8; 32], left: [u8; 32], right: [u8; 32]) -> [u8; 32]
-    ensures { λ r. ⌜ r ≡ suiteOf s .H key (left ++ right) ⌝ }
+    ensures { λ r. ⌜ held s r ≡ suiteOf s .H (held s key) (held s left ++ held s right) ⌝ }
 {
-    let mid = after(keyed_by(1, key), left, right);
-    sha256::finish(mid, 2, b"")
+    let hash = s.hash;
+    match hash {
+        Hash::Sha2 => sha2::h(key, left, right),
+    }
 }
 
-// The value that is signed for a message, which is hashed straight from the caller's slice.
+// The value that is signed for a message.
 pub fn message_digest(s: Seed, r: [u8; 32], root: [u8; 32], index: u32, message: &[u8]) -> [u8; 32]
-    ensures { λ x. ⌜ x ≡ messageDigest (suiteOf s) r root index (now (message .entry)) ⌝ }
+    ensures { λ x. ⌜ held s x ≡ messageDigest (suiteOf s) (held s r) (held s root) index (now (message .entry)) ⌝ }
 {
-    let mid = after(keyed_by(2, r), root, rfc8391::to_bytes(index));
-    sha256::finish(mid, 2, message)
+    let hash = s.hash;
+    match hash {
+        Hash::Sha2 => sha2::message_digest(r, root, index, message),
+    }
 }

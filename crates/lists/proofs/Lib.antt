@@ -9,3 +9,4 @@ pub mod Replacing
 pub mod Joining
 pub mod Written
 pub mod Numbers
+pub mod Fronts

@@ -40,7 +40,7 @@ tab-cons zero f = refl
 tab-cons (suc n) f = ap (λ (t : List _). t ++ (f (suc n) ∷ [])) (tab-cons n f)
 
 -- the front of a list is made by reading it
-tab-take {ℓ} : {A : Type ℓ} (l : List A) (d : A) (i : ℕ) → i ≤ length l → tab i (λ k. getD l k d) ≡ take i l
+pub tab-take {ℓ} : {A : Type ℓ} (l : List A) (d : A) (i : ℕ) → i ≤ length l → tab i (λ k. getD l k d) ≡ take i l
 unfolding tab
 tab-take l d zero h = refl
 tab-take l d (suc i) h = ap (λ (t : List _). t ++ (getD l i d ∷ [])) (tab-take l d i (omega arith)) ∙ sym (take-suc l i d h)

@@ -47,7 +47,8 @@ pub fn eight_words(a: u32, b: u32, c: u32, d: u32, e: u32, f: u32, g: u32, h: u3
     ]
 }
 
-fn wide(x: u8) -> u32
+// A byte as a number.
+pub fn wide(x: u8) -> u32
     ensures { λ r. ⌜ (r ≡ x) × (r < 256) ⌝ }
 {
     x as u32

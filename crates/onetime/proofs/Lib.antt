@@ -1,2 +1,3 @@
--- The laws by which `onetime` puts chains together, at values of 32 bytes.
+-- The laws by which `onetime` puts chains together, over any suite.
 pub mod Ends
+pub mod Leaves

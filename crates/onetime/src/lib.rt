@@ -4,11 +4,11 @@
 ghost use mathlib.Core.Path.{_≡_};
 ghost use mathlib.Core.List.{_++_};
 ghost use Prim.Native.Nat.{_+_, _-_, _*_, _/_, _%_, _^_, _<_, _≤_};
-ghost use lib.ListN.{length, getD, take, drop};
-ghost use Rattle.lists.specs.Lists.{flat, parts};
-ghost use Rattle.rfc8391.specs.Wots.{base_w, checksum, digits, step, chain, wotsPk, wotsSign, wotsPkFromSig};
-ghost use Rattle.keyed.specs.Seeds.{suiteOf, Prepared};
-ghost use Rattle.onetime.specs.Secrets.{Held, valueOf};
+ghost use lib.ListN.{length, getD, take};
+ghost use Rattle.lists.specs.Lists.{parts};
+ghost use Rattle.rfc8391.specs.Wots.{base_w, checksum, digits, len, step, chain, wotsPk, wotsPkFromSig};
+ghost use Rattle.keyed.specs.Seeds.{suiteOf, held, heldAll, seedOf, Prepared};
+ghost use Rattle.onetime.specs.Secrets.{Ready, valueOf};
 use keyed::Seed;
 use rfc8391::Address;
 
@@ -21,45 +21,41 @@ fn digit_at(x: &[u8], i: usize) -> u8
     if i % 2 == 0 { b / 16 % 16 } else { b / 1 % 16 }
 }
 
-fn wide(x: u8) -> u32
-    ensures { λ r. ⌜ r ≡ x ⌝ }
-{
-    x as u32
-}
-
-fn checksum_of(m: [u8; 32]) -> u32
-    ensures { λ r. ⌜ (r ≡ checksum (base_w m 64)) × (r ≤ 960) ⌝ }
+fn checksum_of(m: [u8; 32], k: usize) -> u32
+    requires { ⌜ k ≤ 64 ⌝ }
+    ensures { λ r. ⌜ (r ≡ checksum (base_w m k)) × (r ≤ 960) ⌝ }
 {
     let mut sum: u32 = 0;
     let mut i = 0;
-    while i < 64 {
-        sum += wide(15 - digit_at(&m, i));
+    while i < k {
+        sum += lists::wide(15 - digit_at(&m, i));
         i += 1;
     }
     sum
 }
 
-fn digit_of(m: [u8; 32], c: [u8; 2], i: usize) -> u8
-    requires { ⌜ i < 67 ⌝ }
-    ensures { λ r. ⌜ r ≡ getD (base_w m 64 ++ base_w c 3) i 0 ⌝ }
+fn digit_of(m: [u8; 32], k: usize, c: [u8; 2], i: usize) -> u8
+    requires { ⌜ (k ≤ 64) × (i < k + 3) ⌝ }
+    ensures { λ r. ⌜ r ≡ getD (base_w m k ++ base_w c 3) i 0 ⌝ }
 {
-    if i < 64 {
+    if i < k {
         digit_at(&m, i)
     } else {
-        digit_at(&c, i - 64)
+        digit_at(&c, i - k)
     }
 }
 
-// How far the signer walks each chain for the value m: 64 digits of m and three of their checksum.
-pub fn digits_of(m: [u8; 32]) -> [u8; 67]
-    ensures { λ r. ⌜ r ≡ digits 64 m ⌝ }
+// How far the signer walks each chain for the value m: k digits of m, of which there are 64 or fewer, and three of their checksum.
+pub fn digits_of(m: [u8; 32], k: usize) -> [u8; 67]
+    requires { ⌜ k ≤ 64 ⌝ }
+    ensures { λ r. ⌜ take (k + 3) r ≡ digits k m ⌝ }
 {
-    let shifted = checksum_of(m) * 16;
+    let shifted = checksum_of(m, k) * 16;
     let c = [(shifted / 256 % 256) as u8, (shifted / 1 % 256) as u8];
     let mut out = [0u8; 67];
     let mut i = 0;
-    while i < 67 {
-        out[i] = digit_of(m, c, i);
+    while i < k + 3 {
+        out[i] = digit_of(m, k, c, i);
         i += 1;
     }
     out
@@ -68,7 +64,7 @@ pub fn digits_of(m: [u8; 32]) -> [u8; 67]
 // One step of a chain, at position j. The selector is set for each key and mask, so that none is left over.
 fn chain_step(s: Seed, a: Address, j: u32, x: [u8; 32]) -> [u8; 32]
     requires { ⌜ Prepared s ⌝ }
-    ensures { λ r. ⌜ r ≡ step (suiteOf s) (s .bytes) a j x ⌝ }
+    ensures { λ r. ⌜ held s r ≡ step (suiteOf s) (seedOf s) a j (held s x) ⌝ }
 {
     let at = a.set_hash_address(j);
     let key = keyed::prf(s, at.set_key_and_mask(0).encode());
@@ -83,7 +79,7 @@ pub struct Walked {
 
 pub fn walk(s: Seed, a: Address, x: [u8; 32], from: u32, steps: u32) -> Walked
     requires { ⌜ Prepared s × (from + steps ≤ 15) ⌝ }
-    ensures { λ r. ⌜ r .value ≡ chain (suiteOf s) (s .bytes) a x from steps ⌝ }
+    ensures { λ r. ⌜ held s (r .value) ≡ chain (suiteOf s) (seedOf s) a (held s x) from steps ⌝ }
 {
     let mut v = x;
     let mut k = 0;
@@ -95,10 +91,10 @@ pub fn walk(s: Seed, a: Address, x: [u8; 32], from: u32, steps: u32) -> Walked
     Walked { value: v }
 }
 
-// A walk from a secret value that writes what it reaches into a lent part of 32 bytes.
-fn walk_into(out: &mut [u8], s: Seed, a: Address, x: [u8; 32], steps: u32) -> Walked
-    requires { ⌜ Prepared s × (length (now out) ≡ 32) × (steps ≤ 15) ⌝ }
-    ensures { λ r. ⌜ (r .value ≡ chain (suiteOf s) (s .bytes) a x 0 steps) × (now (out .exit) ≡ chain (suiteOf s) (s .bytes) a x 0 steps) ⌝ }
+// A walk from a secret value that writes what it reaches into a lent part of a value's length.
+pub fn walk_into(out: &mut [u8], s: Seed, a: Address, x: [u8; 32], steps: u32) -> Walked
+    requires { ⌜ Prepared s × (length (now out) ≡ suiteOf s .n) × (steps ≤ 15) ⌝ }
+    ensures { λ r. ⌜ (held s (r .value) ≡ chain (suiteOf s) (seedOf s) a (held s x) 0 steps) × (now (out .exit) ≡ chain (suiteOf s) (seedOf s) a (held s x) 0 steps) ⌝ }
 {
     let w = walk(s, a, x, 0, steps);
     let v = w.value;
@@ -108,27 +104,28 @@ fn walk_into(out: &mut [u8], s: Seed, a: Address, x: [u8; 32], steps: u32) -> Wa
 
 // Walks on from a signature's value to the chain's end. The digit says how far the signer came.
 fn walk_on(part: &[u8], s: Seed, a: Address, digit: u32) -> Walked
-    requires { ⌜ Prepared s × (length (now part) ≡ 32) × (digit ≤ 15) ⌝ }
-    ensures { λ r. ⌜ r .value ≡ chain (suiteOf s) (s .bytes) a (now (part .entry)) digit (15 - digit) ⌝ }
+    requires { ⌜ Prepared s × (length (now part) ≡ suiteOf s .n) × (digit ≤ 15) ⌝ }
+    ensures { λ r. ⌜ held s (r .value) ≡ chain (suiteOf s) (seedOf s) a (now (part .entry)) digit (15 - digit) ⌝ }
 {
     walk(s, a, rfc8391::value_of(part), digit, 15 - digit)
 }
 
-// The 67 chain ends that a signature's chain values lead to, at the one-time address a.
-pub fn ends_from(signature: &[u8], s: Seed, a: Address, m: [u8; 32]) -> [[u8; 32]; 67]
-    requires { ⌜ Prepared s × (2180 ≤ length (now signature)) ⌝ }
-    ensures { λ r. ⌜ r ≡ wotsPkFromSig (suiteOf s) (s .bytes) a m (parts 32 67 36 (now (signature .entry))) ⌝ }
+// The chain ends to which the chain values of a signature lead, at the one-time address a.
+pub fn ends_from(values: &[u8], s: Seed, a: Address, m: [u8; 32]) -> [[u8; 32]; 67]
+    requires { ⌜ Prepared s × (length (now values) ≡ suiteOf s .n * len (suiteOf s)) ⌝ }
+    ensures { λ r. ⌜ heldAll s r ≡ wotsPkFromSig (suiteOf s) (seedOf s) a (held s m) (parts (suiteOf s .n) (len (suiteOf s)) 0 (now (values .entry))) ⌝ }
 {
-    let d = digits_of(m);
+    let n = keyed::value_length_of(s);
+    let d = digits_of(m, 2 * n);
     let mut ends = [[0u8; 32]; 67];
     let mut c = 0;
-    while c < 67 {
-        let at = 36 + 32 * c;
+    while c < 2 * n + 3 {
+        let at = n * c;
         let w = walk_on(
-            &signature[at..at + 32],
+            &values[at..at + n],
             s,
             a.set_chain_address(c as u32),
-            wide(d[c]),
+            lists::wide(d[c]),
         );
         let v = w.value;
         ends[c] = v;
@@ -146,7 +143,7 @@ pub struct Secrets {
 }
 
 pub fn secrets_of(secret: [u8; 32], s: Seed, at: Address) -> Secrets
-    ensures { λ r. ⌜ Held r × (r .secret ≡ secret) × (r .public ≡ s .bytes) × (r .at ≡ at) × (suiteOf (r .leaf) ≡ suiteOf s) ⌝ }
+    ensures { λ r. ⌜ Ready r × (r .secret ≡ secret) × (r .public ≡ s .bytes) × (r .at ≡ at) × (suiteOf (r .leaf) ≡ suiteOf s) ⌝ }
 {
     let leaf_seed = keyed::prf(keyed::prepare_like(s, secret), rfc8391::to_bytes(at.w4));
     let leaf = keyed::prepare_like(s, leaf_seed);
@@ -160,49 +157,28 @@ pub fn secrets_of(secret: [u8; 32], s: Seed, at: Address) -> Secrets
 }
 
 pub fn secret_value(x: Secrets, c: u32) -> [u8; 32]
-    requires { ⌜ Held x ⌝ }
-    ensures { λ r. ⌜ r ≡ valueOf x c ⌝ }
+    requires { ⌜ Ready x ⌝ }
+    ensures { λ r. ⌜ held (x .leaf) r ≡ valueOf x c ⌝ }
 {
     let leaf = x.leaf;
     keyed::prf(leaf, rfc8391::to_bytes(c))
 }
 
-// The 67 chain ends of a leaf's secret values.
+// The chain ends of a leaf's secret values.
 pub fn ends_of(x: Secrets, s: Seed) -> [[u8; 32]; 67]
-    requires { ⌜ Prepared s × Held x ⌝ }
-    ensures { λ r. ⌜ r ≡ wotsPk (suiteOf s) (s .bytes) (x .at) (valueOf x) ⌝ }
+    requires { ⌜ Prepared s × Ready x × (suiteOf (x .leaf) ≡ suiteOf s) ⌝ }
+    ensures { λ r. ⌜ heldAll s r ≡ wotsPk (suiteOf s) (seedOf s) (x .at) (valueOf x) ⌝ }
 {
+    let n = keyed::value_length_of(s);
     let a = x.at;
     let mut ends = [[0u8; 32]; 67];
     let mut c = 0;
-    while c < 67 {
-        let n = c as u32;
-        let w = walk(s, a.set_chain_address(n), secret_value(x, n), 0, 15);
+    while c < 2 * n + 3 {
+        let k = c as u32;
+        let w = walk(s, a.set_chain_address(k), secret_value(x, k), 0, 15);
         let v = w.value;
         ends[c] = v;
         c += 1;
     }
     ends
-}
-
-// Every chain value of the value m in its own 32 bytes of the out buffer, from byte 36 on.
-pub fn write_values(out: &mut [u8], x: Secrets, s: Seed, m: [u8; 32])
-    requires { ⌜ Prepared s × Held x × (2180 ≤ length (now out)) ⌝ }
-    ensures { λ _. ⌜ now (out .exit) ≡ take 36 (now (out .entry)) ++ (flat (wotsSign (suiteOf s) (s .bytes) (x .at) m (valueOf x)) ++ drop 2180 (now (out .entry))) ⌝ }
-{
-    let d = digits_of(m);
-    let a = x.at;
-    let mut c = 0;
-    while c < 67 {
-        let n = c as u32;
-        let at = 36 + 32 * c;
-        walk_into(
-            &mut out[at..at + 32],
-            s,
-            a.set_chain_address(n),
-            secret_value(x, n),
-            wide(d[c]),
-        );
-        c += 1;
-    }
 }

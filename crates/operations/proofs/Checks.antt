@@ -1,83 +1,103 @@
 -- Checking's answer by the tests that lead to it: one law a number.
-use mathlib.Core.Path.{_≡_, sym, ap, ap₂, _∙_}
+use mathlib.Core.Path.{_≡_, sym, ap, _∙_}
 use mathlib.Core.List.{List}
 use Prim.Native.Nat.{ℕ, _^_, _<_, _≤_}
-use lib.ListN.{length, take, drop}
+use lib.ListN.{length, take}
 use Rattle.outcomes.proofs.Outcomes.{outcome-at, outcome-none}
 use Rattle.lists.specs.Bytes.{number}
-use Rattle.rfc8391.specs.Xmss.{messageDigest, rootFromSig, verify}
-use Rattle.rfc8391.specs.Formats.{keyLength, keyFrom, valuesStart, pathStart, signatureFrom, singleTree}
+use Rattle.rfc8391.specs.Xmss.{verify}
+use Rattle.rfc8391.specs.Formats.{keyFrom, signatureFrom, singleTree}
+use Rattle.rfc8391.specs.declared.Hash.{Hash}
 use Rattle.rfc8391.specs.declared.KeyType.the-variants.{Served, Unknown}
-use Rattle.keyed.specs.Sha2.{sha2}
-use Rattle.rfc8391.specs.Suite.{Suite}
-use Rattle.rfc8391.specs.declared.Address.{Address}
-use Rattle.lists.specs.Lists.{parts}
-use Rattle.operations.specs.Check.{typeOf, checkRefusals, checkOf}
-use Rattle.operations.specs.Recomputed.{recomputed}
+use Rattle.keyed.specs.Suites.{suite}
+use Rattle.keyed.proofs.Suites.{suite-length}
+use Rattle.signatures.specs.Recomputed.{recomputed}
+use Rattle.operations.specs.Check.{typeOf, Valid, checkRefusals, checkOf}
 use Rattle.operations.specs.declared.Checked.{Checked}
 use Rattle.operations.proofs.Types.{ServedAs, served-as}
 
 abbrev checked : ℕ → Checked
 checked o = record { outcome = o }
 
+-- two roots agree in the bytes that the code compares exactly when they agree
+module _ (n w : ℕ) (a b x y : List ℕ) (e : w ≡ n) (ea : take n a ≡ x) (eb : take n b ≡ y) where
+  pub roots-agree : take w a ≡ take w b → x ≡ y
+  roots-agree q = sym ea ∙ (rw e at q) ∙ eb
+
+  pub roots-differ : (take w a ≡ take w b → ⊥) → x ≡ y → ⊥
+  roots-differ f q = f (rw e (ea ∙ q ∙ sym eb))
+
 module _ (key m sig : List ℕ) where
   pub key-wrong : (length key ≡ 68 → ⊥) → checked 1 ≡ checkOf key m sig
-  unfolding checkOf checkRefusals keyLength sha2
-  key-wrong h = ap checked (sym (outcome-at (checkRefusals sha2 key m sig) 0 h))
+  unfolding checkOf checkRefusals
+  key-wrong h = ap checked (sym (outcome-at (checkRefusals suite key m sig) 0 h))
 
   pub type-unknown : length key ≡ 68 → typeOf key ≡ Unknown → checked 2 ≡ checkOf key m sig
-  unfolding checkOf checkRefusals keyLength sha2
-  type-unknown k h = ap checked (sym (outcome-at (checkRefusals sha2 key m sig) 1 (k, h)))
+  unfolding checkOf checkRefusals
+  type-unknown k h = ap checked (sym (outcome-at (checkRefusals suite key m sig) 1 (k, h)))
 
   -- where the key is a key of a served type
-  module _ (h l : ℕ) (k : length key ≡ 68) (t : typeOf key ≡ Served h l) where
-    served : ServedAs (typeOf key) h l
-    served = served-as (number key 0 4) h l t
+  module _ (g : Hash) (h l : ℕ) (k : length key ≡ 68) (t : typeOf key ≡ Served g h l) where
+    served : ServedAs (typeOf key) g h l
+    served = served-as (number key 0 4) g h l t
 
     pub signature-wrong : (length sig ≡ l → ⊥) → checked 3 ≡ checkOf key m sig
-    unfolding checkOf checkRefusals keyLength sha2
-    signature-wrong n =
-        ap checked (sym (outcome-at (checkRefusals sha2 key m sig) 2 (k, (served .known, λ e. n (rw (← served .length) e)))))
-
-    pub message-long : length sig ≡ l → 65536 < length m → checked 4 ≡ checkOf key m sig
-    unfolding checkOf checkRefusals keyLength sha2
-    message-long e n =
-        ap checked (sym (outcome-at (checkRefusals sha2 key m sig) 3 (k, (served .known, (rw (served .length) e, n)))))
-
-    pub index-wrong : length sig ≡ l → length m ≤ 65536 → 2 ^ h ≤ number sig 0 4 → checked 5 ≡ checkOf key m sig
-    unfolding checkOf checkRefusals keyLength sha2
-    index-wrong e w n =
+    unfolding checkOf checkRefusals
+    signature-wrong q =
         ap checked
-        (sym (outcome-at (checkRefusals sha2 key m sig) 4 (k, (served .known, (rw (served .length) e, (w, rw (served .height) n))))))
+        (sym (outcome-at (checkRefusals suite key m sig) 2 (k, (served .known, λ e. q (rw (served .hash, served .height, served .length) at e)))))
 
-    pub root-wrong : length sig ≡ l → length m ≤ 65536 → number sig 0 4 < 2 ^ h → (recomputed key m sig h ≡ take 32 (drop 4 key) → ⊥) → checked 6 ≡ checkOf key m sig
-    unfolding checkOf checkRefusals keyLength sha2 verify keyFrom signatureFrom valuesStart pathStart
-    root-wrong e w i n =
-        ap checked
-        (sym
-        (outcome-at (checkRefusals sha2 key m sig) 5 (k, (served .known, (rw (served .length) e, (w, (rw (served .height) i, rw (served .height) n)))))))
+    -- and the signature's length is the type's
+    module _ (e : length sig ≡ l) where
+      pub message-long : 65536 < length m → checked 4 ≡ checkOf key m sig
+      unfolding checkOf checkRefusals
+      message-long q =
+          ap checked
+          (sym (outcome-at (checkRefusals suite key m sig) 3 (k, (served .known, (rw (served .hash, served .height, served .length) e, q)))))
 
-    pub root-right : length sig ≡ l → length m ≤ 65536 → number sig 0 4 < 2 ^ h → recomputed key m sig h ≡ take 32 (drop 4 key) → checked 0 ≡ checkOf key m sig
-    unfolding checkOf checkRefusals keyLength sha2 verify keyFrom signatureFrom valuesStart pathStart
-    root-right e w i q =
-        ap checked
-        (sym
-        (outcome-none (checkRefusals sha2 key m sig) (k, (served .known, (rw (served .length) e, (w, (rw (served .height) i, (rw (served .height) q, tt))))))))
+      pub index-wrong : length m ≤ 65536 → 2 ^ h ≤ number sig 0 4 → checked 5 ≡ checkOf key m sig
+      unfolding checkOf checkRefusals
+      index-wrong w q =
+          ap checked
+          (sym
+          (outcome-at (checkRefusals suite key m sig) 4
+          (k, (served .known, (rw (served .hash, served .height, served .length) e, (w, rw (served .height) q))))))
 
--- what the calls of `recomputed_root` give, one after the other
-pub recomputes : (key m sig : List ℕ) (h : ℕ) (S : Suite) (seed root r digest x : List ℕ) (i : ℕ) (a : Address) → S ≡ sha2 → seed ≡ take 32 (drop 36 key) → root ≡ take 32 (drop 4 key) → r ≡ take 32 (drop 4 sig) → i ≡ number sig 0 4 → a ≡ singleTree → digest ≡ messageDigest S r root i m → x ≡ rootFromSig S seed a h i (parts 32 67 36 sig) (parts 32 h 2180 sig) digest → x ≡ recomputed key m sig h
-recomputes key m sig h S seed root r digest x i a es ep er e4 ei ea ed ex =
-    let n = number sig 0 4 in
-    let root₀ = take 32 (drop 4 key) in
-    let r₀ = take 32 (drop 4 sig) in
-    let values = parts 32 67 36 sig in
-    let path = parts 32 h 2180 sig in
-    let d : digest ≡ messageDigest sha2 r₀ root₀ n m =
-    ed
-    ∙ ap (λ (T : Suite). messageDigest T r root i m) es
-    ∙ ap₂ (λ (u v : List ℕ). messageDigest sha2 u v i m) e4 er
-    ∙ ap (λ (j : ℕ). messageDigest sha2 r₀ root₀ j m) ei in
-    ex
-    ∙ ap (λ (T : Suite). rootFromSig T seed a h i values path digest) es
-    ∙ ap₂ (λ (u : List ℕ) (b : Address). rootFromSig sha2 u b h i values path digest) ep ea
-    ∙ ap₂ (λ (j : ℕ) (u : List ℕ). rootFromSig sha2 (take 32 (drop 36 key)) singleTree h j values path u) ei d
+      -- the root is the key's exactly when the signature is valid
+      valid-is : (recomputed (suite g) h key m sig ≡ keyFrom (suite g .n) key .root) ≡ Valid suite g h key m sig
+      unfolding verify
+      valid-is = ap (λ (n : ℕ). verify (suite g) singleTree h (keyFrom n key) m (signatureFrom n h sig)) (suite-length g)
+
+      pub root-wrong : length m ≤ 65536 → number sig 0 4 < 2 ^ h → (recomputed (suite g) h key m sig ≡ keyFrom (suite g .n) key .root → ⊥)
+          → checked 6 ≡ checkOf key m sig
+      unfolding checkOf checkRefusals
+      root-wrong w i q =
+          ap checked
+          (sym
+          (outcome-at (checkRefusals suite key m sig) 5 (
+            k,
+            (
+              served .known,
+              (
+                rw (served .hash, served .height, served .length) e,
+                (w, (rw (served .height) i, rw (served .hash, served .height, ← valid-is) q)),
+              ),
+            ),
+          )))
+
+      pub root-right : length m ≤ 65536 → number sig 0 4 < 2 ^ h → recomputed (suite g) h key m sig ≡ keyFrom (suite g .n) key .root
+          → checked 0 ≡ checkOf key m sig
+      unfolding checkOf checkRefusals
+      root-right w i q =
+          ap checked
+          (sym
+          (outcome-none (checkRefusals suite key m sig) (
+            k,
+            (
+              served .known,
+              (
+                rw (served .hash, served .height, served .length) e,
+                (w, (rw (served .height) i, (rw (served .hash, served .height, ← valid-is) q, tt))),
+              ),
+            ),
+          )))

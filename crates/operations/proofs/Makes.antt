@@ -28,7 +28,9 @@ module _ (t : ℕ) (material s k : List ℕ) where
   unfolding makeOf makeRefusals materialLength recordLength keyLength sha2
   buffers-wrong e q n = unless-at _ (λ o. makeEnd (made o) s k) (makeRefusals sha2 t material s k) 2 (e, (q, n))
 
-  pub makes : (s′ k′ root public : List ℕ) → length material ≡ 96 → t ≡ 1 → length s ≡ 132 → length k ≡ 68 → root ≡ madeRecord sha2 material .root → public ≡ take 32 (drop 64 material) → s′ ≡ recordBytes (recordWith 32 1 material root) → k′ ≡ toByte 1 4 ++ (root ++ public) → makeEnd (made 0) s′ k′ ≡ makeOf t material s k
+  pub makes : (s′ k′ root public : List ℕ) → length material ≡ 96 → t ≡ 1 → length s ≡ 132 → length k ≡ 68
+      → root ≡ madeRecord sha2 material .root → public ≡ take 32 (drop 64 material) → s′ ≡ recordBytes (recordWith 32 1 material root)
+      → k′ ≡ toByte 1 4 ++ (root ++ public) → makeEnd (made 0) s′ k′ ≡ makeOf t material s k
   unfolding makeOf makeRefusals materialLength recordLength keyLength sha2 madeRecord keyBytes
   makes s′ k′ root public e q ls lk er ep es ek =
       ap₂ (makeEnd (made 0))

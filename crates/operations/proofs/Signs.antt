@@ -61,10 +61,13 @@ module _ (secret page : List ℕ) (s : ℕ) (m out : List ℕ) where
   unfolding signOf
   sign-refused o e n = rw (← e) (go o n)
     where
-      go : (o : ℕ) → (o ≡ 0 → ⊥) → signEnd (signed o s) out ≡ unless o (signEnd (signed 0 0) (signatureBytes (signedBy sha2 (recordFrom (sha2 .n) secret) (s - 1) m))) (λ k. signEnd (signed k s) out)
+      go : (o : ℕ) → (o ≡ 0 → ⊥)
+          → signEnd (signed o s) out ≡ unless o
+          (signEnd (signed 0 0) (signatureBytes (signedBy sha2 (recordFrom (sha2 .n) secret) (s - 1) m))) (λ k. signEnd (signed k s) out)
       go zero n = absurd (n refl)
       go (suc o) n = refl
 
-  pub sign-done : (out′ : List ℕ) → outcomeOf (signRefusals sha2 secret page s m out) ≡ 0 → out′ ≡ signatureBytes (signedBy sha2 (recordFrom 32 secret) (s - 1) m) → signEnd (signed 0 0) out′ ≡ signOf secret page s m out
+  pub sign-done : (out′ : List ℕ) → outcomeOf (signRefusals sha2 secret page s m out) ≡ 0
+      → out′ ≡ signatureBytes (signedBy sha2 (recordFrom 32 secret) (s - 1) m) → signEnd (signed 0 0) out′ ≡ signOf secret page s m out
   unfolding signOf sha2
   sign-done out′ e q = ap (signEnd (signed 0 0)) q ∙ rw e

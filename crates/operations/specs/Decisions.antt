@@ -11,12 +11,12 @@ use Rattle.rfc8391.specs.declared.KeyType.{KeyType}
 use Rattle.rfc8391.specs.declared.KeyType.the-variants.{Served, Unknown}
 
 served-number : KeyType → ℕ
-served-number (Served height length) = 1
+served-number (Served hash height length) = 1
 served-number Unknown = 0
 
 pub unknown? : (t : KeyType) → Dec (t ≡ Unknown)
 unfolding served-number
-unknown? (Served height length) = no (λ e. let z : _≡_ {A = ℕ} 1 0 = ap served-number e in absurd (omega arith))
+unknown? (Served hash height length) = no (λ e. let z : _≡_ {A = ℕ} 1 0 = ap served-number e in absurd (omega arith))
 unknown? Unknown = yes refl
 
 pub verify? : (S : Suite) (a : Address) (h : ℕ) (pk : PublicKey) (m : List ℕ) (sig : Signature) → Dec (verify S a h pk m sig)

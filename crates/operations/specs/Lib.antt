@@ -1,6 +1,5 @@
 -- What the operations answer.
 pub mod Decisions
 pub mod Check
-pub mod Recomputed
 pub mod Make
 pub mod Sign

@@ -1,18 +1,16 @@
 // Making, signing and checking: the answer for every input, and every byte of every buffer.
-// Uses the refusals of outcomes, the page of marks, records and trees.
+// Uses the refusals of outcomes, the page of marks, records and signatures.
 // The promises, the checking program and the library for C and C++ use it.
 ghost use mathlib.Core.Path.{_≡_};
 ghost use mathlib.Core.Bool.{true, false};
-ghost use Prim.Native.Nat.{_+_, _*_, _^_, _≤_};
-ghost use lib.ListN.{length};
+ghost use Prim.Native.Nat.{_^_, _≤_};
+ghost use lib.ListN.{take};
 ghost use Rattle.outcomes.specs.Outcome.{outcomeOf};
 ghost use Rattle.keyed.specs.Sha2.{sha2};
 ghost use Rattle.operations.specs.Check.{checkOf};
 ghost use Rattle.operations.specs.Make.{makeEnd, makeOf};
 ghost use Rattle.operations.specs.Sign.{signRefusals, signEnd, signOf};
-ghost use Rattle.operations.specs.Recomputed.{recomputed};
 use marks::Tally;
-use rfc8391::Address;
 use rfc8391::KeyType;
 
 // What checking answers. A later request adds a count of steps.
@@ -40,38 +38,19 @@ fn leaves(height: u32) -> u32
     1 << height
 }
 
-// Whether two values agree in every byte.
-fn same(a: [u8; 32], b: [u8; 32]) -> bool
-    ensures { λ r. ⌜ (r ≡ true → a ≡ b) × (r ≡ false → a ≡ b → ⊥) ⌝ }
+// Whether two values of n bytes agree in every byte.
+fn same(a: [u8; 32], b: [u8; 32], n: usize) -> bool
+    requires { ⌜ n ≤ 32 ⌝ }
+    ensures { λ r. ⌜ (r ≡ true → take n a ≡ take n b) × (r ≡ false → take n a ≡ take n b → ⊥) ⌝ }
 {
     let mut i: usize = 0;
-    while i < 32 {
+    while i < n {
         if a[i] != b[i] {
             return false;
         }
         i += 1;
     }
     true
-}
-
-// The root to which a signature of a message leads.
-fn recomputed_root(key: &[u8], message: &[u8], signature: &[u8], height: u32) -> [u8; 32]
-    requires { ⌜ (length (now key) ≡ 68) × (length (now signature) ≡ 2180 + 32 * height) × (height ≤ 20) ⌝ }
-    ensures { λ r. ⌜ r ≡ recomputed (now (key .entry)) (now (message .entry)) (now (signature .entry)) height ⌝ }
-{
-    let seed = keyed::prepare(rfc8391::value_of(&key[36..68]));
-    let root = rfc8391::value_of(&key[4..36]);
-    let r = rfc8391::value_of(&signature[4..36]);
-    let index = lists::big_endian(signature, 0);
-    let digest = keyed::message_digest(seed, r, root, index, message);
-    tree::root_from_signature(
-        seed,
-        Address::single_tree(),
-        height,
-        index,
-        signature,
-        digest,
-    )
 }
 
 // Makes a key pair of 96 bytes of seed material: the secret record and the public key, into two lent buffers.
@@ -133,7 +112,7 @@ pub fn sign(secret: &[u8], page: &[u8], session: u32, message: &[u8], out: &mut 
     if outcome != 0 {
         return Signed { outcome, session };
     }
-    records::write_signature(secret, session - 1, message, out);
+    signatures::write_signature(secret, session - 1, message, out);
     Signed {
         outcome: 0,
         session: 0,
@@ -148,7 +127,12 @@ pub fn check(key: &[u8], message: &[u8], signature: &[u8]) -> Checked
         return Checked { outcome: 1 };
     }
     let kind = rfc8391::key_type(lists::big_endian(key, 0));
-    let KeyType::Served { height, length } = kind else {
+    let KeyType::Served {
+        hash,
+        height,
+        length,
+    } = kind
+    else {
         return Checked { outcome: 2 };
     };
     if signature.len() != length as usize {
@@ -160,8 +144,9 @@ pub fn check(key: &[u8], message: &[u8], signature: &[u8]) -> Checked
     if leaves(height) <= lists::big_endian(signature, 0) {
         return Checked { outcome: 5 };
     }
-    let root = recomputed_root(key, message, signature, height);
-    if !same(root, rfc8391::value_of(&key[4..36])) {
+    let n = keyed::value_length(hash);
+    let root = signatures::recomputed_root(hash, height, key, message, signature);
+    if !same(root, rfc8391::value_of(&key[4..4 + n]), n) {
         return Checked { outcome: 6 };
     }
     Checked { outcome: 0 }

@@ -1,5 +1,5 @@
 -- What making writes is read back from its bytes, and what is signed with it is accepted under its key.
-use mathlib.Core.Path.{_≡_, sym, ap, subst, _∙_}
+use mathlib.Core.Path.{_≡_, refl, sym, ap, ap₂, subst, _∙_}
 use mathlib.Core.List.{List}
 use Prim.Native.Nat.{ℕ, _-_, _*_, _^_, _<_, _≤_}
 use native.Mathlib.Omega.{arith}
@@ -9,12 +9,16 @@ use Rattle.lists.proofs.Numbers.{length-toByte}
 use Rattle.rfc8391.specs.Suite.{Suite, Value}
 use Rattle.rfc8391.specs.Xmss.{publicKeyOf, signatureWith, signatureOf}
 use Rattle.rfc8391.specs.House.{secretValue, secrets}
-use Rattle.rfc8391.specs.Formats.{keyBytes, pathStart, signatureLength, signatureBytes, keyType, singleTree, Accepts}
+use Rattle.rfc8391.specs.Formats.{valueLength, keyBytes, pathStart, signatureLength, signatureBytes, keyType, singleTree, Accepts}
+use Rattle.rfc8391.specs.declared.Hash.{Hash}
+use Rattle.rfc8391.specs.declared.Hash.the-variants.{Sha2}
 use Rattle.rfc8391.specs.declared.KeyType.the-variants.{Served}
 use Rattle.rfc8391.proofs.Honest.{root-value}
 use Rattle.rfc8391.proofs.Formats.{front-number}
 use Rattle.rfc8391.proofs.Accepted.{honest-accepted}
 use Rattle.keyed.specs.Sha2.{sha2}
+use Rattle.keyed.specs.Suites.{suite}
+use Rattle.keyed.proofs.Suites.{suite-length}
 use Rattle.records.specs.Records.{SecretRecord, recordBytes, recordFrom, publicKey}
 use Rattle.records.proofs.Read.{RecordFits, record-read}
 use Rattle.records.specs.Keys.{secretsOf, madeRecord, signedBy}
@@ -25,13 +29,17 @@ use Rattle.promises.specs.Kept as kept
 use Rattle.promises.specs.Kept.{secretFor, keyFor}
 use Rattle.promises.specs.History.{given}
 use Rattle.promises.specs.Signing.{signatureFor}
-use Rattle.promises.proofs.Checking.{sha2-n, accepted}
+use Rattle.promises.proofs.Checking.{accepted}
 use Rattle.promises.proofs.Signing.{sign-given}
 
 -- a signature carries its index
 pub signature-index : (S : Suite) (r : SecretRecord) (i : ℕ) (m : List ℕ) → i < 1024 → number (signatureBytes (signedBy S r i m)) 0 4 ≡ i
 unfolding signatureBytes signedBy signatureWith
 signature-index S r i m h = front-number i _ (omega arith)
+
+sha2-n : sha2 .n ≡ 32
+unfolding sha2
+sha2-n = refl
 
 -- over any suite with values of 32 bytes
 module _ (S : Suite) (n32 : S .n ≡ 32) (material : List ℕ) (l : length material ≡ 96) where
@@ -53,16 +61,17 @@ module _ (S : Suite) (n32 : S .n ≡ 32) (material : List ℕ) (l : length mater
         root = root-value S _ singleTree _ (secret-values _ _) 10 .size;
       }
 
-  made-accepts : (i : ℕ) (m : List ℕ) → i < 1024 →
-      Accepts S (keyBytes (publicKey (madeRecord S material))) m (signatureBytes (signedBy S (madeRecord S material) i m))
-  unfolding madeRecord signedBy signatureOf publicKeyOf keyType
-  made-accepts i m h =
-      honest-accepted S _ _ _ public-size (secret-values _ _) 1 10 i m (omega arith)
-      (ap (λ (n : ℕ). Served 10 (signatureLength n 10)) (sym n32)) (omega arith) (omega arith)
-
   made-type : number (keyBytes (publicKey (madeRecord S material))) 0 4 ≡ 1
   unfolding keyBytes madeRecord
   made-type = front-number 1 _ (omega arith)
+
+-- what is signed with it is accepted at the suite of its type
+made-accepts : (material : List ℕ) → length material ≡ 96 → (i : ℕ) (m : List ℕ) → i < 1024
+    → Accepts suite (keyBytes (publicKey (madeRecord sha2 material))) m (signatureBytes (signedBy sha2 (madeRecord sha2 material) i m))
+unfolding suite madeRecord signedBy signatureOf publicKeyOf keyType valueLength
+made-accepts material l i m h =
+    honest-accepted suite Sha2 (suite-length Sha2) _ _ _ (public-size sha2 sha2-n material l) (secret-values sha2 sha2-n material l _ _) 1 10 i m (omega arith)
+    refl (omega arith) (omega arith)
 
 -- the record that making writes
 module _ (material : List ℕ) (l : length material ≡ 96) where
@@ -84,32 +93,35 @@ module _ (material : List ℕ) (l : length material ≡ 96) where
   -- a signature by any index is accepted under the key
   pub signature-accepted : (i : ℕ) (m σ : List ℕ) → i < 1024 → length m ≤ 65536 →
       σ ≡ signatureBytes (signedBy sha2 (recordFrom 32 (secretFor material)) i m) → kept.Accepted (keyFor material) (given m σ)
-  unfolding checkOf signatureLength pathStart keyType
+  unfolding checkOf signatureLength pathStart keyType valueLength
   signature-accepted i m σ h w e =
       let q : σ ≡ signatureBytes (signedBy sha2 (madeRecord sha2 material) i m) =
       e ∙ ap (λ (r : SecretRecord). signatureBytes (signedBy sha2 r i m)) secret-read in
-      let a : Accepts sha2 (keyFor material) m σ =
-      subst (Accepts sha2 (keyFor material) m) (sym q) (made-accepts sha2 sha2-n material l i m h) in
+      let a : Accepts suite (keyFor material) m σ =
+      subst (Accepts suite (keyFor material) m) (sym q) (made-accepts material l i m h) in
       let x : number σ 0 4 ≡ i = ap (λ (s : List ℕ). number s 0 4) q ∙ signature-index sha2 (madeRecord sha2 material) i m h in
-      let t : keyType 1 ≡ Served (a .height) (signatureLength (sha2 .n) (a .height)) =
+      let t : keyType 1 ≡ Served (a .hash) (a .height) (signatureLength (valueLength (a .hash)) (a .height)) =
       ap keyType (sym (made-type sha2 sha2-n material l)) ∙ a .key-type in
-      let ten : 10 ≡ a .height = served-as 1 (a .height) _ t .height in
+      let s = served-as 1 (a .hash) (a .height) _ t in
+      let ten : 10 ≡ a .height = s .height in
       let small : number σ 0 4 < 2 ^ a .height = subst (λ (k : ℕ). number σ 0 4 < 2 ^ k) ten (omega arith) in
       let size : length σ ≡ 2500 =
-      a .sig-length ∙ ap (λ (k : ℕ). signatureLength (sha2 .n) k) (sym ten) ∙ ap (λ (k : ℕ). signatureLength k 10) sha2-n in
-      record { size = size; checked = accepted sha2 sha2-n (keyFor material) m σ .1 (record { accepts = a; message = w; index = small }) }
+      a .sig-length ∙ ap₂ (λ (g : Hash) (k : ℕ). signatureLength (valueLength g) k) (sym (s .hash)) (sym ten) in
+      record { size = size; checked = accepted suite (keyFor material) m σ .1 (record { accepts = a; message = w; index = small }) }
 
   -- what is signed with the record is the signature of the key that the material gives
   pub signature-is : (i : ℕ) (m : List ℕ) → signatureBytes (signedBy sha2 (recordFrom 32 (secretFor material)) i m) ≡ signatureFor material i m
   unfolding madeRecord signedBy signatureOf sha2
   signature-is i m = ap (λ (r : SecretRecord). signatureBytes (signedBy sha2 r i m)) secret-read
 
-  pub signed-out : (secret page : List ℕ) (s : ℕ) (m out : List ℕ) (x : SignEnd) → x ≡ signOf secret page s m out → secret ≡ secretFor material → x .answer .outcome ≡ 0 → x .out ≡ signatureFor material (s - 1) m
+  pub signed-out : (secret page : List ℕ) (s : ℕ) (m out : List ℕ) (x : SignEnd) → x ≡ signOf secret page s m out
+      → secret ≡ secretFor material → x .answer .outcome ≡ 0 → x .out ≡ signatureFor material (s - 1) m
   signed-out secret page s m out x e q z =
       ap (λ (y : SignEnd). y .out) (e ∙ sign-given secret page s m out (sym (ap (λ (y : SignEnd). y .answer .outcome) e) ∙ z))
       ∙ ap (λ (k : List ℕ). signatureBytes (signedBy sha2 (recordFrom 32 k) (s - 1) m)) q
       ∙ signature-is (s - 1) m
 
-  pub honest-checks : (i : ℕ) (key m σ : List ℕ) → i < 1024 → length m ≤ 65536 → key ≡ keyFor material → σ ≡ signatureFor material i m → checkOf key m σ .outcome ≡ 0
+  pub honest-checks : (i : ℕ) (key m σ : List ℕ) → i < 1024 → length m ≤ 65536 → key ≡ keyFor material → σ ≡ signatureFor material i m
+      → checkOf key m σ .outcome ≡ 0
   honest-checks i key m σ h w ek es =
       ap (λ (k : List ℕ). checkOf k m σ .outcome) ek ∙ signature-accepted i m σ h w (es ∙ sym (signature-is i m)) .checked

@@ -7,13 +7,20 @@ use lib.ListN.{length}
 use Rattle.lists.specs.Bytes.{number}
 use Rattle.rfc8391.specs.Suite.{Suite}
 use Rattle.rfc8391.specs.Xmss.{messageDigest, rootFromSig}
-use Rattle.rfc8391.specs.Formats.{keyFrom, signatureFrom, singleTree, Accepts}
+use Rattle.rfc8391.specs.Formats.{valueLength, keyFrom, signatureFrom, singleTree, Accepts}
+use Rattle.rfc8391.specs.declared.Hash.{Hash}
 use Rattle.rfc8391.specs.declared.KeyType.the-variants.{Unknown}
-use Rattle.operations.specs.Check.{typeOf, heightOf}
+use Rattle.operations.specs.Check.{typeOf, hashOf, heightOf}
 
--- over the suite of the key's type, whose values have 32 bytes
-module _ (S : Suite) (key m sig : List ℕ) where
-  -- the height h of the key's type
+-- over a suite for each hash, of which the key's type takes its own
+module _ (suites : Hash → Suite) (key m sig : List ℕ) where
+  -- the key's type: its hash, the bytes of a value, and the height of the tree
+  abbrev g : Hash
+  g = hashOf (typeOf key)
+
+  abbrev n : ℕ
+  n = valueLength g
+
   abbrev h : ℕ
   h = heightOf (typeOf key)
 
@@ -23,8 +30,9 @@ module _ (S : Suite) (key m sig : List ℕ) where
   abbrev pub TypeUnknown : Type 0
   TypeUnknown = typeOf key ≡ Unknown
 
+  -- index, r, chain values and path: 36 + (67 + h) * 32 where a value has 32 bytes
   abbrev pub SignatureFits : Type 0
-  SignatureFits = length sig ≡ 36 + (67 + h) * 32
+  SignatureFits = length sig ≡ 4 + n + (2 * n + 3 + h) * n
 
   abbrev pub MessageFits : Type 0
   MessageFits = length m ≤ 65536
@@ -35,10 +43,10 @@ module _ (S : Suite) (key m sig : List ℕ) where
   -- Algorithm 13: the root recomputed from the signature is the key's, byte by byte
   abbrev pub RootAgrees : Type 0
   RootAgrees =
-      rootFromSig S (keyFrom 32 key .seed) singleTree h (signatureFrom 32 h sig .idx) (signatureFrom 32 h sig .values)
-      (signatureFrom 32 h sig .auth)
-      (messageDigest S (signatureFrom 32 h sig .r) (keyFrom 32 key .root) (signatureFrom 32 h sig .idx) m)
-      ≡ keyFrom 32 key .root
+      rootFromSig (suites g) (keyFrom n key .seed) singleTree h (signatureFrom n h sig .idx) (signatureFrom n h sig .values)
+      (signatureFrom n h sig .auth)
+      (messageDigest (suites g) (signatureFrom n h sig .r) (keyFrom n key .root) (signatureFrom n h sig .idx) m)
+      ≡ keyFrom n key .root
 
   -- each number exactly when its condition holds and none earlier does
   pub record CheckNumbers (outcome : ℕ) : Type 0 where
@@ -52,6 +60,6 @@ module _ (S : Suite) (key m sig : List ℕ) where
 
   -- what RFC 8391 accepts, inside the two limits that are ours
   pub record Accepted : Type 0 where
-    pub accepts : Accepts S key m sig
+    pub accepts : Accepts suites key m sig
     pub message : length m ≤ 65536
     pub index : number sig 0 4 < 2 ^ accepts .height

@@ -8,6 +8,7 @@ ghost use Prim.Native.Nat.{ℕ, _+_, _-_, _/_, _<_, _≤_};
 ghost use lib.ListN.{length};
 ghost use Rattle.lists.specs.Bytes.{number};
 ghost use Rattle.keyed.specs.Sha2.{sha2};
+ghost use Rattle.keyed.specs.Suites.{suite};
 ghost use Rattle.rfc8391.specs.Formats.{signatureBytes};
 ghost use Rattle.records.specs.Records.{recordFrom};
 ghost use Rattle.records.specs.Keys.{signedBy};
@@ -216,7 +217,7 @@ pub fn signing_has_one_answer(
 
 // Demand 1: "Every input gets one of the fixed numbered refusals or a result", each exactly when its condition holds.
 pub fn checking_gives_each_number_exactly(key: &[u8], message: &[u8], signature: &[u8]) -> Checked
-    ensures { λ r. ⌜ CheckNumbers sha2 (now (key .entry)) (now (message .entry)) (now (signature .entry)) (r .outcome) ⌝ }
+    ensures { λ r. ⌜ CheckNumbers suite (now (key .entry)) (now (message .entry)) (now (signature .entry)) (r .outcome) ⌝ }
 {
     operations::check(key, message, signature)
 }
@@ -246,7 +247,7 @@ pub fn checking_accepts_what_rfc_8391_accepts(
     message: &[u8],
     signature: &[u8],
 ) -> Checked
-    ensures { λ r. ⌜ (r .outcome ≡ 0) ↔ Accepted sha2 (now (key .entry)) (now (message .entry)) (now (signature .entry)) ⌝ }
+    ensures { λ r. ⌜ (r .outcome ≡ 0) ↔ Accepted suite (now (key .entry)) (now (message .entry)) (now (signature .entry)) ⌝ }
 {
     operations::check(key, message, signature)
 }

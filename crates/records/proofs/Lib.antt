@@ -1,5 +1,4 @@
 -- The laws of `records`.
 pub mod Pasted
 pub mod Made
-pub mod Signed
 pub mod Read

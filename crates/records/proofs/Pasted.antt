@@ -10,9 +10,14 @@ use lib.Seq.{take-at, drop-at, take-all, drop-drop}
 pub pasted : (p q y : List ℕ) (a k : ℕ) → length p ≡ a → take a (p ++ q) ++ (y ++ drop k (drop a (p ++ q))) ≡ p ++ (y ++ drop k q)
 pasted p q y a k e = rw (take-at p q a e, drop-at p q a e)
 
+-- a value that fills the part of k places to which it was written
+pub filled : (w v : List ℕ) (k : ℕ) → length w ≡ k → w ≡ take k v → k ≡ length v → w ≡ v
+filled w v k l e h = e ∙ take-all k v (omega arith)
+
 -- three parts that fill a buffer
 pub three-parts : (out x y z x₀ y₀ z₀ : List ℕ) (a b c ab : ℕ) → x ≡ x₀ → y ≡ y₀ → z ≡ z₀ → length x₀ ≡ a → length y₀ ≡ b → ab ≡ a + b → length out ≡ ab + c →
-    take ab (take a (x ++ drop a out) ++ (y ++ drop b (drop a (x ++ drop a out)))) ++ (z ++ drop c (drop ab (take a (x ++ drop a out) ++ (y ++ drop b (drop a (x ++ drop a out)))))) ≡ x₀ ++ (y₀ ++ z₀)
+    take ab (take a (x ++ drop a out) ++ (y ++ drop b (drop a (x ++ drop a out)))) ++
+    (z ++ drop c (drop ab (take a (x ++ drop a out) ++ (y ++ drop b (drop a (x ++ drop a out)))))) ≡ x₀ ++ (y₀ ++ z₀)
 three-parts out x y z x₀ y₀ z₀ a b c ab qx qy qz lx ly e l =
     let ex : length x ≡ a = ap (λ (w : List ℕ). length w) qx ∙ lx in
     let ey : length y ≡ b = ap (λ (w : List ℕ). length w) qy ∙ ly in

@@ -1,4 +1,3 @@
 -- The secret record, and what is made of it.
 pub mod Records
 pub mod Keys
-pub mod Parts

@@ -11,7 +11,8 @@ use Rattle.lists.proofs.Numbers.{length-toByte}
 use Rattle.rfc8391.specs.Suite.{Suite, Value, Values}
 use Rattle.rfc8391.specs.Wots.{len, wotsSign}
 use Rattle.rfc8391.specs.Xmss.{Signature, PublicKey, otsAt, authPath, publicKeyOf, signatureWith, signatureOf}
-use Rattle.rfc8391.specs.Formats.{keyLength, keyBytes, keyFrom, pathStart, signatureLength, signatureBytes, signatureFrom, keyType, singleTree, Accepts}
+use Rattle.rfc8391.specs.Formats.{keyLength, keyBytes, keyFrom, pathStart, signatureLength, signatureBytes, signatureFrom, valueLength, keyType, singleTree, Accepts}
+use Rattle.rfc8391.specs.declared.Hash.{Hash}
 use Rattle.rfc8391.specs.declared.KeyType.the-variants.{Served}
 use Rattle.rfc8391.proofs.Chains.{sign-values}
 use Rattle.rfc8391.proofs.Honest.{root-value, path-values, honest-verifies}
@@ -57,19 +58,27 @@ module _ (S : Suite) (seed skPrf : List ℕ) (sk : ℕ → ℕ → List ℕ) (se
         node = sizes _ h (length-tab h _) (path-values S seed singleTree sk sk-value h i);
       }
 
-  -- what Algorithm 10 makes for a type, and what Algorithm 12 signs with it, is accepted
-  pub honest-accepted : (t h i : ℕ) (m : List ℕ) → t < 2 ^ 32 → keyType t ≡ Served h (signatureLength (S .n) h) → i < 2 ^ h → i < 2 ^ 32
-      → Accepts S (keyBytes (publicKeyOf S seed t singleTree sk h)) m (signatureBytes (signatureOf S seed singleTree sk skPrf h i m))
-  unfolding publicKeyOf keyFrom
-  honest-accepted t h i m qt et qh qi =
-      let pk = publicKeyOf S seed t singleTree sk h in
-      let sig = signatureOf S seed singleTree sk skPrf h i m in
-      let rk : keyFrom (S .n) (keyBytes pk) ≡ pk = key-read (S .n) pk (made-fits t h qt) in
-      let rs : signatureFrom (S .n) h (signatureBytes sig) ≡ sig = signature-read (S .n) h sig (signed-fits h i m qi) in
-      record {
-        height = h;
-        key-length = key-size (S .n) pk (made-fits t h qt);
-        key-type = ap (λ (k : PublicKey). keyType (k .type)) rk ∙ et;
-        sig-length = signature-size (S .n) h sig (signed-fits h i m qi);
-        valid = rw (rk, rs) (honest-verifies S seed singleTree sk t h i skPrf m qh);
-      }
+-- what Algorithm 10 makes for a type, and what Algorithm 12 signs with it, is accepted
+pub honest-accepted : (suites : Hash → Suite) (hash : Hash) → suites hash .n ≡ valueLength hash
+    → (seed skPrf : List ℕ) (sk : ℕ → ℕ → List ℕ) → length seed ≡ suites hash .n → ((i c : ℕ) → Value (suites hash .n) (sk i c))
+    → (t h i : ℕ) (m : List ℕ) → t < 2 ^ 32 → keyType t ≡ Served hash h (signatureLength (valueLength hash) h) → i < 2 ^ h → i < 2 ^ 32
+    → Accepts suites (keyBytes (publicKeyOf (suites hash) seed t singleTree sk h)) m
+    (signatureBytes (signatureOf (suites hash) seed singleTree sk skPrf h i m))
+unfolding publicKeyOf keyFrom
+honest-accepted suites hash n seed skPrf sk ls vs t h i m qt et qh qi =
+    let S = suites hash in
+    let pk = publicKeyOf S seed t singleTree sk h in
+    let sig = signatureOf S seed singleTree sk skPrf h i m in
+    let fk = made-fits S seed skPrf sk ls vs t h qt in
+    let fs = signed-fits S seed skPrf sk ls vs h i m qi in
+    let rk : keyFrom (valueLength hash) (keyBytes pk) ≡ pk = ap (λ (w : ℕ). keyFrom w (keyBytes pk)) (sym n) ∙ key-read (S .n) pk fk in
+    let rs : signatureFrom (valueLength hash) h (signatureBytes sig) ≡ sig =
+    ap (λ (w : ℕ). signatureFrom w h (signatureBytes sig)) (sym n) ∙ signature-read (S .n) h sig fs in
+    record {
+      hash = hash;
+      height = h;
+      key-length = key-size (S .n) pk fk ∙ ap keyLength n;
+      key-type = ap (λ (k : PublicKey). keyType (k .type)) rk ∙ et;
+      sig-length = signature-size (S .n) h sig fs ∙ ap (λ (w : ℕ). signatureLength w h) n;
+      valid = rw (rk, rs) (honest-verifies S seed singleTree sk t h i skPrf m qh);
+    }

@@ -4,12 +4,12 @@ use mathlib.Core.List.{List, [], _∷_, _++_}
 use Prim.Native.Nat.{ℕ, suc, _+_, _-_, _*_, _/_, _%_, _^_, _<_, _≤_}
 use native.Mathlib.Nat.{mod-lt}
 use native.Mathlib.Omega.{arith}
-use lib.ListN.{length, getD, length-append, List·getD-append}
-use lib.Seq.{getD-append-add}
+use lib.ListN.{length, getD, take, length-append, List·getD-append}
+use lib.Seq.{getD-append-add, getD-take}
 use native.Mathlib.Numerals.{add-one}
 use Rattle.lists.specs.Lists.{tab}
 use Rattle.lists.specs.Bytes.{toByte}
-use Rattle.lists.proofs.Tabs.{length-tab, getD-tab}
+use Rattle.lists.proofs.Tabs.{length-tab, getD-tab, tab-ext}
 use Rattle.lists.proofs.Everywhere.{append-all, tab-all}
 use Rattle.rfc8391.specs.Wots.{base_w, checksum, total, digits}
 
@@ -26,7 +26,8 @@ length-digits k m = simp (length-append, length-base_w)
 -- every digit is at most 15
 base_w-small : (x : List ℕ) (k i : ℕ) → getD (base_w x k) i 0 ≤ 15
 unfolding base_w
-base_w-small x k i = tab-all 0 (λ d. d ≤ 15) k _ (omega arith) (λ j. let h : getD x (j / 2) 0 / 16 ^ (1 - j % 2) % 16 < 16 = mod-lt _ (omega arith) in omega arith) i
+base_w-small x k i =
+    tab-all 0 (λ d. d ≤ 15) k _ (omega arith) (λ j. let h : getD x (j / 2) 0 / 16 ^ (1 - j % 2) % 16 < 16 = mod-lt _ (omega arith) in omega arith) i
 
 pub digit-small : (k : ℕ) (m : List ℕ) (i : ℕ) → getD (digits k m) i 0 ≤ 15
 unfolding digits
@@ -54,7 +55,8 @@ pub digit-of-checksum : (k : ℕ) (m c : List ℕ) (i j : ℕ) → i ≡ k + j �
     → getD (base_w m k ++ base_w c 3) i 0 ≡ getD c (j / 2) 0 / 16 ^ (1 - j % 2) % 16
 unfolding base_w
 digit-of-checksum k m c i j e h =
-    rw e (ap (λ (l : ℕ). getD (base_w m k ++ base_w c 3) (l + j) 0) (sym (length-base_w m k)) ∙ getD-append-add (base_w m k) (base_w c 3) j 0 ∙ getD-tab 3 _ 0 j h)
+    rw e (ap (λ (l : ℕ). getD (base_w m k ++ base_w c 3) (l + j) 0) (sym (length-base_w m k)) ∙ getD-append-add (base_w m k)
+    (base_w c 3) j 0 ∙ getD-tab 3 _ 0 j h)
 
 -- what signing walks and what checking walks are 15 a chain
 pub sums-meet : (l : List ℕ) → ((i : ℕ) → getD l i 0 ≤ 15) → total l + checksum l ≡ 15 * length l
@@ -63,3 +65,12 @@ sums-meet [] h = refl
 sums-meet (d ∷ l) h =
     let ih : total l + checksum l ≡ 15 * length l = sums-meet l (λ i. h (suc i)) in
     omega (arith, h 0)
+
+-- the digits of a value's n bytes are the same where more bytes stand behind them
+base_w-front : (n k : ℕ) (m : List ℕ) → k ≤ 2 * n → base_w (take n m) k ≡ base_w m k
+unfolding base_w
+base_w-front n k m h = tab-ext k _ _ (λ i q. ap (λ (b : ℕ). b / 16 ^ (1 - i % 2) % 16) (getD-take n m (i / 2) 0 (omega arith)))
+
+pub digits-front : (n : ℕ) (m : List ℕ) → digits (2 * n) (take n m) ≡ digits (2 * n) m
+unfolding digits
+digits-front n m = rw (base_w-front n (2 * n) m (omega arith))

@@ -86,11 +86,3 @@ module _ (S : Suite) (seed : List ℕ) where
   pub ltree-value : (a : Address) (l : List (List ℕ)) → 0 < length l → Values (S .n) l → Value (S .n) (ltree S seed a l)
   unfolding ltree Values
   ltree-value a l p v = rounds-values a (length l) l v 0 (rounds-positive a (length l) l p)
-
-  -- seven rounds leave one of 67
-  seven-rounds : (a : Address) (l : List (List ℕ)) → length l ≡ 67 → length (turns 7 (λ h v. ltreeRound S seed a h v) l) ≡ 1
-  unfolding turns
-  seven-rounds a l e = simp length-round (rw e)
-
-  pub ltree-of-67 : (a : Address) (l : List (List ℕ)) → length l ≡ 67 → ltree S seed a l ≡ getD (turns 7 (λ h v. ltreeRound S seed a h v) l) 0 []
-  ltree-of-67 a l e = ltree-done a 7 l (omega arith) (seven-rounds a l e)

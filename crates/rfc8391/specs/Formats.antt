@@ -9,6 +9,8 @@ use Rattle.lists.specs.Bytes.{toByte, number}
 use Rattle.rfc8391.specs.Suite.{Suite}
 use Rattle.rfc8391.specs.Xmss.{Signature, PublicKey, verify}
 use Rattle.rfc8391.specs.declared.Address.{Address}
+use Rattle.rfc8391.specs.declared.Hash.{Hash}
+use Rattle.rfc8391.specs.declared.Hash.the-variants.{Sha2}
 use Rattle.rfc8391.specs.declared.KeyType.{KeyType}
 use Rattle.rfc8391.specs.declared.KeyType.the-variants.{Served, Unknown}
 
@@ -44,21 +46,27 @@ signatureFrom n h b =
       auth = parts n h (pathStart n) b;
     }
 
+-- the bytes of a value, by the hash that a type names
+unfoldable pub valueLength : Hash → ℕ
+valueLength Sha2 = 32
+
 -- 5.3 and the registry of section 8: the types with SHA-256 and values of 32 bytes; no other number is a type here
 unfoldable pub keyType : ℕ → KeyType
 keyType t =
-    pick (eqb t 1) (Served 10 (signatureLength 32 10))
-    (pick (eqb t 2) (Served 16 (signatureLength 32 16))
-    (pick (eqb t 3) (Served 20 (signatureLength 32 20)) Unknown))
+    pick (eqb t 1) (Served Sha2 10 (signatureLength 32 10))
+    (pick (eqb t 2) (Served Sha2 16 (signatureLength 32 16))
+    (pick (eqb t 3) (Served Sha2 20 (signatureLength 32 20)) Unknown))
 
 -- layer 0 and tree 0
 abbrev pub singleTree : Address
 singleTree = record { layer = 0; treehigh = 0; treelow = 0; kind = 0; w4 = 0; w5 = 0; w6 = 0; w7 = 0 }
 
--- the bytes of a key, a message and a signature that RFC 8391 accepts, at the height and the suite S of the key's type
-pub record Accepts (S : Suite) (key m sig : List ℕ) : Type 0 where
+-- the bytes of a key, a message and a signature that RFC 8391 accepts, at the hash and the height of the key's type: sizes are by the
+-- hash, and what is hashed by its suite
+pub record Accepts (suites : Hash → Suite) (key m sig : List ℕ) : Type 0 where
+  pub hash : Hash
   pub height : ℕ
-  pub key-length : length key ≡ keyLength (S .n)
-  pub key-type : keyType (number key 0 4) ≡ Served height (signatureLength (S .n) height)
-  pub sig-length : length sig ≡ signatureLength (S .n) height
-  pub valid : verify S singleTree height (keyFrom (S .n) key) m (signatureFrom (S .n) height sig)
+  pub key-length : length key ≡ keyLength (valueLength hash)
+  pub key-type : keyType (number key 0 4) ≡ Served hash height (signatureLength (valueLength hash) height)
+  pub sig-length : length sig ≡ signatureLength (valueLength hash) height
+  pub valid : verify (suites hash) singleTree height (keyFrom (valueLength hash) key) m (signatureFrom (valueLength hash) height sig)

@@ -9,6 +9,7 @@ use Rattle.rfc8391.specs.Wots.{checksum, total, digits}
 use Rattle.rfc8391.specs.Xmss.{pathPosition, ltreeRounds}
 use Rattle.rfc8391.specs.Formats.{keyType}
 use Rattle.rfc8391.specs.declared.Address.{Address}
+use Rattle.rfc8391.specs.declared.Hash.the-variants.{Sha2}
 use Rattle.rfc8391.specs.declared.KeyType.the-variants.{Served}
 
 -- a digest's last three digits, the steps of signing (the sum of its digits) and those of checking (15 less each)
@@ -19,7 +20,7 @@ pub record Digits (digest last : List ℕ) (signing checking : ℕ) : Type 0 whe
 
 -- a type's height and the length of its signatures
 abbrev Length : ℕ → ℕ → ℕ → Type 0
-Length type height bytes = keyType type ≡ Served height bytes
+Length type height bytes = keyType type ≡ Served Sha2 height bytes
 
 -- how many values an L-tree over any 67 has before each round and at its end
 abbrev Widths : List ℕ → Type 0

@@ -2,8 +2,8 @@
 // Uses lists.
 // Everything above uses it.
 ghost use mathlib.Core.Path.{_≡_};
-ghost use Prim.Native.Nat.{_<_};
-ghost use lib.ListN.{length};
+ghost use Prim.Native.Nat.{_≤_};
+ghost use lib.ListN.{length, take};
 ghost use Rattle.lists.specs.Bytes.{toByte};
 ghost use Rattle.rfc8391.specs.Suite.{xor};
 ghost use Rattle.rfc8391.specs.Address.{setType, setOTSAddress, setChainAddress, setHashAddress, setLTreeAddress, setTreeHeight, setTreeIndex, setKeyAndMask, addressBytes};
@@ -140,9 +140,18 @@ impl Address {
     }
 }
 
-// What a type number stands for: a tree's height and the length of its signatures; or nothing that we know.
+// The hash of a key type, with the length of its values: SHA-256 and 32 bytes.
+pub enum Hash {
+    Sha2,
+}
+
+// What a type number stands for: a hash, a tree's height and the length of its signatures; or nothing that we know.
 pub enum KeyType {
-    Served { height: u32, length: u32 },
+    Served {
+        hash: Hash,
+        height: u32,
+        length: u32,
+    },
     Unknown,
 }
 
@@ -151,14 +160,17 @@ pub fn key_type(number: u32) -> KeyType
 {
     match number {
         1 => KeyType::Served {
+            hash: Hash::Sha2,
             height: 10,
             length: 2500,
         },
         2 => KeyType::Served {
+            hash: Hash::Sha2,
             height: 16,
             length: 2692,
         },
         3 => KeyType::Served {
+            hash: Hash::Sha2,
             height: 20,
             length: 2820,
         },
@@ -190,27 +202,29 @@ pub fn to_bytes(x: u32) -> [u8; 32]
     out
 }
 
-// The 32 bytes of a part.
+// The bytes of a part, as the first of 32.
 pub fn value_of(part: &[u8]) -> [u8; 32]
-    requires { ⌜ length (now part) ≡ 32 ⌝ }
-    ensures { λ r. ⌜ r ≡ now (part .entry) ⌝ }
+    requires { ⌜ length (now part) ≤ 32 ⌝ }
+    ensures { λ r. ⌜ take (length (now (part .entry))) r ≡ now (part .entry) ⌝ }
 {
+    let n = part.len();
     let mut out = [0u8; 32];
     let mut i = 0;
-    while i < 32 {
+    while i < n {
         out[i] = part[i];
         i += 1;
     }
     out
 }
 
-// A value into a lent part of 32 bytes.
+// As many bytes of a value as a lent part has.
 pub fn write_value(out: &mut [u8], value: [u8; 32])
-    requires { ⌜ length (now out) ≡ 32 ⌝ }
-    ensures { λ _. ⌜ now (out .exit) ≡ value ⌝ }
+    requires { ⌜ length (now out) ≤ 32 ⌝ }
+    ensures { λ _. ⌜ now (out .exit) ≡ take (length (now (out .entry))) value ⌝ }
 {
+    let n = out.len();
     let mut i = 0;
-    while i < 32 {
+    while i < n {
         out[i] = value[i];
         i += 1;
     }

@@ -12,21 +12,19 @@ use Rattle.outcomes.proofs.Outcomes.{outcome-none}
 use Rattle.rfc8391.specs.Suite.{Suite, xor}
 use Rattle.rfc8391.specs.Wots.{base_w, checksum, digits, step, chain, wotsPkFromSig}
 use Rattle.rfc8391.specs.Xmss.{messageDigest, randHash, ltreeNode, ltreeRound, ltree, climb, rootFromPath, rootFromSig, verify}
-use Rattle.rfc8391.specs.Formats.{keyLength, keyFrom, valuesStart, pathStart, signatureLength, signatureFrom, keyType}
+use Rattle.rfc8391.specs.Formats.{valueLength, keyLength, keyFrom, valuesStart, pathStart, signatureLength, signatureFrom, keyType}
+use Rattle.rfc8391.specs.declared.Hash.{Hash}
+use Rattle.rfc8391.specs.declared.Hash.the-variants.{Sha2}
 use Rattle.operations.specs.Check.{heightOf}
 use Rattle.promises.specs.Checking.{KeyFits, TypeUnknown, SignatureFits, MessageFits, IndexFits, RootAgrees, Accepted}
 use Rattle.promises.proofs.Checking.{numbers, accepted}
 use Rattle.shams.specs.ToyValues.{zeros, rightHalf}
-use Rattle.shams.specs.Toy.{toy}
+use Rattle.shams.specs.Toy.{toy, toys}
 use Rattle.shams.specs.Checks.{Kept, honest, fixed, refusing, oneChain, firstEnd, rootByOneChain}
 
-pub honest-keeps : (S : Suite) → S .n ≡ 32 → Kept S (honest S)
+pub honest-keeps : (suites : Hash → Suite) → Kept suites (honest suites)
 unfolding honest
-honest-keeps S n32 = record { numbers = numbers S n32; accepted = accepted S n32 }
-
-toy-n : toy .n ≡ 32
-unfolding toy
-toy-n = refl
+honest-keeps suites = record { numbers = numbers suites; accepted = accepted suites }
 
 -- a key of a type and a root, and a signature of index 1,023 filled with ones
 abbrev key : ℕ → ℕ → List ℕ
@@ -36,26 +34,26 @@ abbrev filler : List ℕ
 filler = toByte 1023 4 ++ replicate 2496 1
 
 -- an empty key is answered 1, and one of type 7 is answered 2
-pub fixed-breaks : (S : Suite) (outcome : ℕ) → Kept S (fixed S outcome) → ⊥
+pub fixed-breaks : (suites : Hash → Suite) (outcome : ℕ) → Kept suites (fixed suites outcome) → ⊥
 unfolding fixed toByte number keyType
-fixed-breaks S outcome kept =
+fixed-breaks suites outcome kept =
     let one : outcome ≡ 1 = kept .numbers [] [] [] .one .1 (λ e. omega arith) in
     let two : outcome ≡ 2 = kept .numbers (key 7 0) [] [] .two .1 (refl, refl) in
     omega arith
 
 -- at the toy suite any signature of index 1,023 leads to the root of zeros
-honest-signature : Accepted toy (key 1 0) [] filler
-unfolding toy zeros rightHalf toByte number keyType keyLength keyFrom valuesStart pathStart signatureLength signatureFrom tab turns parts xor base_w checksum digits step chain wotsPkFromSig messageDigest randHash ltreeNode ltreeRound ltree climb rootFromPath rootFromSig verify
+honest-signature : Accepted toys (key 1 0) [] filler
+unfolding toys toy zeros rightHalf toByte number keyType valueLength keyLength keyFrom valuesStart pathStart signatureLength signatureFrom tab turns parts xor base_w checksum digits step chain wotsPkFromSig messageDigest randHash ltreeNode ltreeRound ltree climb rootFromPath rootFromSig verify
 honest-signature =
     record {
-      accepts = record { height = 10; key-length = refl; key-type = refl; sig-length = refl; valid = refl };
+      accepts = record { hash = Sha2; height = 10; key-length = refl; key-type = refl; sig-length = refl; valid = refl };
       message = lit≤ tt;
       index = lit< tt;
     }
 
-pub refusing-breaks : Kept toy (refusing toy) → ⊥
+pub refusing-breaks : Kept toys (refusing toys) → ⊥
 unfolding refusing
-refusing-breaks kept = never (honest toy (key 1 0) [] filler) (kept .accepted (key 1 0) [] filler .1 honest-signature)
+refusing-breaks kept = never (honest toys (key 1 0) [] filler) (kept .accepted (key 1 0) [] filler .1 honest-signature)
   where
     never : (o : ℕ) → unless o 6 (λ n. n) ≡ 0 → ⊥
     never zero e = omega arith
@@ -64,31 +62,38 @@ refusing-breaks kept = never (honest toy (key 1 0) [] filler) (kept .accepted (k
 -- such a signature under a key whose root is ones: every test but the last is passed, and the root of zeros differs
 abbrev Passed : Type 0
 Passed =
-    KeyFits toy (key 1 1) [] filler
-    × (TypeUnknown toy (key 1 1) [] filler → ⊥)
-    × SignatureFits toy (key 1 1) [] filler
-    × MessageFits toy (key 1 1) [] filler
-    × IndexFits toy (key 1 1) [] filler
-    × (RootAgrees toy (key 1 1) [] filler → ⊥)
+    KeyFits toys (key 1 1) [] filler
+    × (TypeUnknown toys (key 1 1) [] filler → ⊥)
+    × SignatureFits toys (key 1 1) [] filler
+    × MessageFits toys (key 1 1) [] filler
+    × IndexFits toys (key 1 1) [] filler
+    × (RootAgrees toys (key 1 1) [] filler → ⊥)
 
 other-root : Passed
-unfolding toy zeros rightHalf toByte number keyType keyLength keyFrom valuesStart pathStart signatureLength signatureFrom tab turns parts xor base_w checksum digits step chain wotsPkFromSig messageDigest randHash ltreeNode ltreeRound ltree climb rootFromPath rootFromSig
-other-root =
-    (refl, λ e. let z : _≡_ {A = ℕ} 10 0 = ap heightOf e in omega arith, refl, lit≤ tt, lit< tt, λ e. let z : _≡_ {A = ℕ} 0 1 = ap (λ (l : List ℕ). getD l 0 0) e in omega arith)
+unfolding toys toy zeros rightHalf toByte number keyType valueLength keyLength keyFrom valuesStart pathStart signatureLength signatureFrom tab turns parts xor base_w checksum digits step chain wotsPkFromSig messageDigest randHash ltreeNode ltreeRound ltree climb rootFromPath rootFromSig
+other-root = (
+  refl,
+  λ e. let z : _≡_ {A = ℕ} 10 0 = ap heightOf e in omega arith,
+  refl,
+  lit≤ tt,
+  lit< tt,
+  λ e. let z : _≡_ {A = ℕ} 0 1 = ap (λ
+      (l : List ℕ). getD l 0 0) e in omega arith,
+)
 
 -- its last value passes for the end of its chain, and so for the root
 root-by-one-chain : rootByOneChain toy 10 (keyFrom 32 (key 1 1)) [] (signatureFrom 32 10 filler) ≡ keyFrom 32 (key 1 1) .root
 unfolding toy zeros rightHalf toByte number keyFrom valuesStart pathStart signatureFrom tab turns parts xor base_w checksum digits step chain wotsPkFromSig messageDigest randHash ltreeNode ltreeRound ltree climb rootFromPath rootByOneChain firstEnd
 root-by-one-chain = refl
 
-one-chain-accepts : oneChain toy (key 1 1) [] filler ≡ 0
-unfolding oneChain toByte number keyType honest
+one-chain-accepts : oneChain toys (key 1 1) [] filler ≡ 0
+unfolding oneChain toys toByte number keyType valueLength honest
 one-chain-accepts =
-    let six : honest toy (key 1 1) [] filler ≡ 6 = numbers toy toy-n (key 1 1) [] filler .six .1 other-root in
+    let six : honest toys (key 1 1) [] filler ≡ 6 = numbers toys (key 1 1) [] filler .six .1 other-root in
     rw six (outcome-none _ (root-by-one-chain, tt))
 
-pub one-chain-breaks : Kept toy (oneChain toy) → ⊥
+pub one-chain-breaks : Kept toys (oneChain toys) → ⊥
 one-chain-breaks kept =
-    let six : oneChain toy (key 1 1) [] filler ≡ 6 = kept .numbers (key 1 1) [] filler .six .1 other-root in
+    let six : oneChain toys (key 1 1) [] filler ≡ 6 = kept .numbers (key 1 1) [] filler .six .1 other-root in
     let both : _≡_ {A = ℕ} 0 6 = sym one-chain-accepts ∙ six in
     omega arith

@@ -4,28 +4,29 @@
 ghost use mathlib.Core.Path.{_≡_};
 ghost use Prim.Native.Nat.{ℕ};
 ghost use Rattle.rfc8391.specs.Suite.{Suite};
+ghost use Rattle.rfc8391.specs.declared.Hash.{Hash};
 ghost use mathlib.Core.List.{List};
 ghost use lib.ListN.{length};
 ghost use Rattle.promises.specs.Kept.{secretFor, keyFor, AlwaysKept};
-ghost use Rattle.shams.specs.Toy.{toy};
+ghost use Rattle.shams.specs.Toy.{toys};
 ghost use Rattle.shams.specs.Histories.{fixedIndex, refusingAll, inventedCount, markingNothing, fixedSignature, writingNothing, firstHonest, keepingSession, signingUnmarked};
 ghost use Rattle.shams.specs.Checks.{Kept, honest, fixed, refusing, oneChain};
 
-// That the promises can be kept: the honest way keeps them, over any suite with values of 32 bytes.
+// That the promises can be kept: the honest way keeps them, over any suites.
 pub fn the_honest_check_keeps_the_promises()
-    ensures { λ _. ⌜ ((S : Suite) → S .n ≡ 32 → Kept S (honest S)) ⌝ }
+    ensures { λ _. ⌜ ((suites : Hash → Suite) → Kept suites (honest suites)) ⌝ }
 {}
 
 pub fn a_fixed_outcome_breaks_a_promise()
-    ensures { λ _. ⌜ ((S : Suite) (outcome : ℕ) → Kept S (fixed S outcome) → ⊥) ⌝ }
+    ensures { λ _. ⌜ ((suites : Hash → Suite) (outcome : ℕ) → Kept suites (fixed suites outcome) → ⊥) ⌝ }
 {}
 
 pub fn refusing_everything_breaks_a_promise()
-    ensures { λ _. ⌜ (Kept toy (refusing toy) → ⊥) ⌝ }
+    ensures { λ _. ⌜ (Kept toys (refusing toys) → ⊥) ⌝ }
 {}
 
 pub fn checking_one_chain_breaks_a_promise()
-    ensures { λ _. ⌜ (Kept toy (oneChain toy) → ⊥) ⌝ }
+    ensures { λ _. ⌜ (Kept toys (oneChain toys) → ⊥) ⌝ }
 {}
 
 // Over histories of a key that making wrote.

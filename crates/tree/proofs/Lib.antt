@@ -1,4 +1,4 @@
--- The laws by which `tree` puts nodes together, at values of 32 bytes.
+-- The laws by which `tree` puts nodes together, over any suite.
 pub mod Joins
 pub mod Rounds
 pub mod Bounds

@@ -1,4 +1,4 @@
--- A round of the L-tree in place, and seven of them.
+-- A round of the L-tree in place, and all of them.
 use mathlib.Core.Path.{_≡_, sym, ap, _∙_}
 use mathlib.Core.List.{List, []}
 use Prim.Native.Nat.{ℕ, _+_, _-_, _*_, _/_, _%_, _<_, _≤_}
@@ -12,7 +12,7 @@ use Rattle.rfc8391.specs.Suite.{Suite}
 use Rattle.rfc8391.specs.Address.{setTreeHeight, setTreeIndex}
 use Rattle.rfc8391.specs.Xmss.{randHash, ltreeNode, ltreeRound, ltree}
 use Rattle.rfc8391.specs.declared.Address.{Address}
-use Rattle.rfc8391.proofs.Ltrees.{node-of-pair, node-of-last, ltree-of-67}
+use Rattle.rfc8391.proofs.Ltrees.{node-of-pair, node-of-last, ltree-done}
 
 module _ (S : Suite) (seed : List ℕ) (a : Address) (h w : ℕ) (v₀ : List (List ℕ)) (fits : w ≤ length v₀) where
   -- the loop's state: its rule reads the first w values as they were
@@ -52,8 +52,9 @@ module _ (S : Suite) (seed : List ℕ) (a : Address) (h w : ℕ) (v₀ : List (L
       let g : half ≡ i = omega arith in
       rw g (whole (set v i (getD v (w - 1) [])) (i + 1) (omega arith) (replacing-more _ v₀ v i _ last (omega arith) inv))
 
--- the L-tree's value, from the first of those that seven rounds left
-pub ltree-by : (S : Suite) (seed : List ℕ) (a : Address) (ends v : List (List ℕ)) (w k : ℕ) → length ends ≡ 67 → 1 ≤ w → k ≡ 7
+-- the L-tree's value, where k rounds left one
+pub ltree-by : (S : Suite) (seed : List ℕ) (a : Address) (ends v : List (List ℕ)) (w k : ℕ) → k ≤ length ends → w ≡ 1 → 1 ≤ length v
     → take w v ≡ turns k (λ h l. ltreeRound S seed a h l) ends → getD v 0 [] ≡ ltree S seed a ends
-ltree-by S seed a ends v w k l p e q =
-    sym (getD-take w v 0 [] p) ∙ ap (λ (t : List (List ℕ)). getD t 0 []) (rw e at q) ∙ sym (ltree-of-67 S seed a ends l)
+ltree-by S seed a ends v w k l e p q =
+    let one : length (turns k (λ h l. ltreeRound S seed a h l) ends) ≡ 1 = rw (← q, e) (length-take-le 1 v p) in
+    sym (getD-take w v 0 [] (omega arith)) ∙ ap (λ (t : List (List ℕ)). getD t 0 []) q ∙ sym (ltree-done S seed a k ends l one)

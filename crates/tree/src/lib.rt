@@ -4,9 +4,10 @@
 ghost use mathlib.Core.Path.{_≡_};
 ghost use Prim.Native.Nat.{_+_, _*_, _/_, _%_, _^_, _<_, _≤_};
 ghost use lib.ListN.{length, take};
-ghost use Rattle.lists.specs.Lists.{flat, parts};
+ghost use Rattle.lists.specs.Lists.{flat, parts, fronts};
+ghost use Rattle.rfc8391.specs.Wots.{len};
 ghost use Rattle.rfc8391.specs.Xmss.{treeAt, sibling, randHash, ltreeRound, ltree, node, authPath, climb, rootFromPath, rootFromSig};
-ghost use Rattle.keyed.specs.Seeds.{suiteOf, Prepared};
+ghost use Rattle.keyed.specs.Seeds.{suiteOf, held, heldAll, seedOf, Prepared};
 ghost use Rattle.tree.specs.Keys.{leafAt};
 use keyed::Seed;
 use rfc8391::Address;
@@ -14,7 +15,7 @@ use rfc8391::Address;
 // Two values joined. The selector is set for each key and mask, so that none is left over.
 fn join(s: Seed, a: Address, left: [u8; 32], right: [u8; 32]) -> [u8; 32]
     requires { ⌜ Prepared s ⌝ }
-    ensures { λ r. ⌜ r ≡ randHash (suiteOf s) (s .bytes) a left right ⌝ }
+    ensures { λ r. ⌜ held s r ≡ randHash (suiteOf s) (seedOf s) a (held s left) (held s right) ⌝ }
 {
     let key = keyed::prf(s, a.set_key_and_mask(0).encode());
     let left_mask = keyed::prf(s, a.set_key_and_mask(1).encode());
@@ -30,7 +31,7 @@ fn join(s: Seed, a: Address, left: [u8; 32], right: [u8; 32]) -> [u8; 32]
 // One round over the first w values, in place: a pair's join is stored where no later pair reads.
 fn ltree_round(s: Seed, a: Address, height: u32, mut v: [[u8; 32]; 67], w: usize) -> [[u8; 32]; 67]
     requires { ⌜ Prepared s × (w ≤ 67) ⌝ }
-    ensures { λ r. ⌜ take ((w + 1) / 2) r ≡ ltreeRound (suiteOf s) (s .bytes) a height (take w v) ⌝ }
+    ensures { λ r. ⌜ take ((w + 1) / 2) (fronts (suiteOf s .n) r) ≡ ltreeRound (suiteOf s) (seedOf s) a height (take w (fronts (suiteOf s .n) v)) ⌝ }
 {
     let half = w / 2;
     let mut i = 0;
@@ -53,15 +54,15 @@ fn ltree_round(s: Seed, a: Address, height: u32, mut v: [[u8; 32]; 67], w: usize
     v
 }
 
-// The L-tree over 67 chain ends: seven rounds leave one value.
+// The L-tree over the chain ends: rounds until one value is left.
 fn ltree_root(s: Seed, a: Address, ends: [[u8; 32]; 67]) -> [u8; 32]
     requires { ⌜ Prepared s ⌝ }
-    ensures { λ r. ⌜ r ≡ ltree (suiteOf s) (s .bytes) a ends ⌝ }
+    ensures { λ r. ⌜ held s r ≡ ltree (suiteOf s) (seedOf s) a (heldAll s ends) ⌝ }
 {
     let mut v = ends;
-    let mut w: usize = 67;
+    let mut w = 2 * keyed::value_length_of(s) + 3;
     let mut height: u32 = 0;
-    while height < 7 {
+    while 1 < w {
         let next = ltree_round(s, a, height, v, w);
         v = next;
         w -= w / 2;
@@ -73,7 +74,7 @@ fn ltree_root(s: Seed, a: Address, ends: [[u8; 32]; 67]) -> [u8; 32]
 // The leaf i of the key with this secret seed.
 pub fn leaf(secret: [u8; 32], s: Seed, a: Address, i: u32) -> [u8; 32]
     requires { ⌜ Prepared s ⌝ }
-    ensures { λ r. ⌜ r ≡ leafAt secret s a i ⌝ }
+    ensures { λ r. ⌜ held s r ≡ leafAt (held s secret) s a i ⌝ }
 {
     let x = onetime::secrets_of(secret, s, a.ots_at(i));
     let ends = onetime::ends_of(x, s);
@@ -90,7 +91,7 @@ fn join_at(
     right: [u8; 32],
 ) -> [u8; 32]
     requires { ⌜ Prepared s ⌝ }
-    ensures { λ r. ⌜ r ≡ randHash (suiteOf s) (s .bytes) (treeAt a height above) left right ⌝ }
+    ensures { λ r. ⌜ held s r ≡ randHash (suiteOf s) (seedOf s) (treeAt a height above) (held s left) (held s right) ⌝ }
 {
     join(s, a.tree_at(height, above), left, right)
 }
@@ -98,7 +99,7 @@ fn join_at(
 // The node of a height at a position, from its two nodes of the height below.
 pub fn node_at(secret: [u8; 32], s: Seed, a: Address, height: u32, position: u32) -> [u8; 32]
     requires { ⌜ Prepared s × ((position + 1) * 2 ^ height ≤ 1048576) ⌝ }
-    ensures { λ r. ⌜ r ≡ node (suiteOf s) (s .bytes) a (leafAt secret s a) height position ⌝ }
+    ensures { λ r. ⌜ held s r ≡ node (suiteOf s) (seedOf s) a (leafAt (held s secret) s a) height position ⌝ }
 {
     if height == 0 {
         leaf(secret, s, a, position)
@@ -124,15 +125,16 @@ fn beside(position: u32) -> u32
 
 // The path of a leaf into a lent part: at each height the sibling of the leaf's ancestor, from the leaf up.
 pub fn write_path(out: &mut [u8], secret: [u8; 32], s: Seed, a: Address, height: u32, index: u32)
-    requires { ⌜ Prepared s × (height ≤ 20) × (index < 2 ^ height) × (length (now out) ≡ 32 * height) ⌝ }
-    ensures { λ _. ⌜ now (out .exit) ≡ flat (authPath (suiteOf s) (s .bytes) a (leafAt secret s a) height index) ⌝ }
+    requires { ⌜ Prepared s × (height ≤ 20) × (index < 2 ^ height) × (length (now out) ≡ suiteOf s .n * height) ⌝ }
+    ensures { λ _. ⌜ now (out .exit) ≡ flat (authPath (suiteOf s) (seedOf s) a (leafAt (held s secret) s a) height index) ⌝ }
 {
+    let n = keyed::value_length_of(s);
     let mut position = index;
     let mut k = 0;
     while k < height {
-        let at = 32 * (k as usize);
+        let at = n * (k as usize);
         let other = node_at(secret, s, a, k, beside(position));
-        rfc8391::write_value(&mut out[at..at + 32], other);
+        rfc8391::write_value(&mut out[at..at + n], other);
         position /= 2;
         k += 1;
     }
@@ -141,7 +143,7 @@ pub fn write_path(out: &mut [u8], secret: [u8; 32], s: Seed, a: Address, height:
 // From a node of height k at a position to the one above, by its sibling: an even position is a left one.
 fn climb_by(s: Seed, a: Address, k: u32, position: u32, v: [u8; 32], other: [u8; 32]) -> [u8; 32]
     requires { ⌜ Prepared s ⌝ }
-    ensures { λ r. ⌜ r ≡ climb (suiteOf s) (s .bytes) a k position v other ⌝ }
+    ensures { λ r. ⌜ held s r ≡ climb (suiteOf s) (seedOf s) a k position (held s v) (held s other) ⌝ }
 {
     if position % 2 == 0 {
         join_at(s, a, k, position / 2, v, other)
@@ -159,15 +161,16 @@ fn root_from_path(
     start: [u8; 32],
     path: &[u8],
 ) -> [u8; 32]
-    requires { ⌜ Prepared s × (height ≤ 20) × (length (now path) ≡ 32 * height) ⌝ }
-    ensures { λ r. ⌜ r ≡ rootFromPath (suiteOf s) (s .bytes) a height index start (parts 32 height 0 (now (path .entry))) ⌝ }
+    requires { ⌜ Prepared s × (height ≤ 20) × (length (now path) ≡ suiteOf s .n * height) ⌝ }
+    ensures { λ r. ⌜ held s r ≡ rootFromPath (suiteOf s) (seedOf s) a height index (held s start) (parts (suiteOf s .n) height 0 (now (path .entry))) ⌝ }
 {
+    let n = keyed::value_length_of(s);
     let mut v = start;
     let mut position = index;
     let mut k = 0;
     while k < height {
-        let at = 32 * (k as usize);
-        let next = climb_by(s, a, k, position, v, rfc8391::value_of(&path[at..at + 32]));
+        let at = n * (k as usize);
+        let next = climb_by(s, a, k, position, v, rfc8391::value_of(&path[at..at + n]));
         v = next;
         position /= 2;
         k += 1;
@@ -175,19 +178,21 @@ fn root_from_path(
     v
 }
 
-// The root from a signature of the value m: the chain values lead to a leaf, and the path behind them to the root.
+// The root from a signature of the value m: its chain values lead to a leaf, and its path to the root. Where these parts lie in a
+// signature is the caller's to know.
 pub fn root_from_signature(
     s: Seed,
     a: Address,
     height: u32,
     index: u32,
-    signature: &[u8],
+    values: &[u8],
+    path: &[u8],
     m: [u8; 32],
 ) -> [u8; 32]
-    requires { ⌜ Prepared s × (height ≤ 20) × (length (now signature) ≡ 2180 + 32 * height) ⌝ }
-    ensures { λ r. ⌜ r ≡ rootFromSig (suiteOf s) (s .bytes) a height index (parts 32 67 36 (now (signature .entry))) (parts 32 height 2180 (now (signature .entry))) m ⌝ }
+    requires { ⌜ Prepared s × (height ≤ 20) × (length (now values) ≡ suiteOf s .n * len (suiteOf s)) × (length (now path) ≡ suiteOf s .n * height) ⌝ }
+    ensures { λ r. ⌜ held s r ≡ rootFromSig (suiteOf s) (seedOf s) a height index (parts (suiteOf s .n) (len (suiteOf s)) 0 (now (values .entry))) (parts (suiteOf s .n) height 0 (now (path .entry))) (held s m) ⌝ }
 {
-    let ends = onetime::ends_from(signature, s, a.ots_at(index), m);
+    let ends = onetime::ends_from(values, s, a.ots_at(index), m);
     let start = ltree_root(s, a.ltree_at(index), ends);
-    root_from_path(s, a, height, index, start, &signature[2180..])
+    root_from_path(s, a, height, index, start, path)
 }

@@ -1,17 +1,19 @@
--- From the seed's hash value.
-use borrow.Author.Needs.{needs}
+-- By the hash; in `Sha2` from the seed's hash value.
+use mathlib.Core.Path.{_≡_}
+use lib.ListN.{length}
 use Rattle.keyed.proofs.Blocks.{keyed-by-one}
+use Rattle.keyed.proofs.Suites.{only-sha2, prf-in-sha2}
 use Rattle.keyed.specs.Seeds.{suiteOf, Prepared}
-use Rattle.keyed.specs.Sha2.{sha2}
+use borrow.Author.Needs.{needs}
 use Rattle.keyed.proofs.prf.Statement.{statement}
 use Rattle.keyed.proofs.prf.Tie as tie
 
-finish-half-requires : tie.Need-finish-half-requires
-finish-half-requires c κs = search needs
-
 returns : tie.Need-returns
-unfolding Prepared suiteOf sha2
-returns c = keyed-by-one 3 _ _ _ _ (search needs) (c .before .before .pre) (c .finish-half .ensures)
+unfolding suiteOf Prepared
+returns c =
+    let b = c .before .before in
+    let l : length (b .args .s .bytes) ≡ 32 = search needs in
+    prf-in-sha2 _ (only-sha2 _) (b .args .s .bytes) _ _ l (c .finish-half .ok .1 .0 .1) (keyed-by-one 3 _ _ _ _ l (b .pre) (c .finish-half .ensures))
 
 pub prf-spec : {M : Type 1} → statement M
-prf-spec = tie.close (tie.spec finish-half-requires returns)
+prf-spec = tie.close (tie.spec (λ c κs. search needs) returns)

@@ -6,9 +6,6 @@ use borrow.Author.Needs.{needs}
 use Rattle.onetime.proofs.digit_at.Statement.{statement}
 use Rattle.onetime.proofs.digit_at.Tie as tie
 
-shared-slice-read-b : tie.Need-shared-slice-read-b
-shared-slice-read-b c = search needs
-
 returns : tie.Need-returns
 returns c = (rw (c .if1 .taken), omega arith)
 
@@ -18,4 +15,4 @@ returns-2 c =
     (rw e, omega arith)
 
 pub digit-at-spec : {M : Type 1} → statement M
-digit-at-spec = tie.close (tie.spec shared-slice-read-b returns returns-2)
+digit-at-spec = tie.close (tie.spec (λ c. search needs) returns returns-2)

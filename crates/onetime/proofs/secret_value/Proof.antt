@@ -8,15 +8,10 @@ use Rattle.rfc8391.specs.House.{secretValue}
 use Rattle.onetime.proofs.secret_value.Statement.{statement}
 use Rattle.onetime.proofs.secret_value.Tie as tie
 
-to-bytes-requires : tie.Need-to-bytes-requires
-to-bytes-requires c κs = search needs
-
-prf-requires : tie.Need-prf-requires
-prf-requires c κs = search needs
-
 returns : tie.Need-returns
 unfolding valueOf secretValue
-returns c = c .prf .ensures ∙ ap₂ (suiteOf (c .before .before .before .args .x .leaf) .PRF) (c .before .before .before .pre .leaf-seed) (c .before .to-bytes .ensures)
+returns c = c .prf .ensures ∙ ap₂ (suiteOf (c .before .before .before .args .x .leaf) .PRF) (c .before .before .before .pre .leaf-seed)
+    (c .before .to-bytes .ensures)
 
 pub secret-value-spec : {M : Type 1} → statement M
-secret-value-spec = tie.close (tie.spec to-bytes-requires prf-requires returns)
+secret-value-spec = tie.close (tie.spec (λ c κs. search needs) (λ c κs. search needs) returns)

@@ -1,20 +1,20 @@
 -- From the part's value.
-use Prim.Native.Nat.{_-_}
 use borrow.Author.Needs.{needs}
+use mathlib.Core.Path.{_≡_}
+use native.Mathlib.Omega.{arith}
+use Rattle.keyed.specs.Seeds.{held}
+use Rattle.keyed.proofs.Suites.{seed-fits}
 use Rattle.onetime.proofs.walk_on.Statement.{statement}
 use Rattle.onetime.proofs.walk_on.Tie as tie
 
 value-of-requires : tie.Need-value-of-requires
-value-of-requires c κs = search needs
-
-sub-walk : tie.Need-sub-walk
-sub-walk c = search needs
-
-walk-requires : tie.Need-walk-requires
-walk-requires c κs = search needs
+value-of-requires c κs = omega (arith, seed-fits (c .before .args .s))
 
 returns : tie.Need-returns
-returns c = rw (c .before .value-of .ensures) at (c .walk .ensures)
+returns c =
+    let e : held (c .before .before .before .args .s) (c .before .value-of .result) ≡ c .before .before .before .args .part .now =
+    rw (← (c .before .before .before .pre .1)) (c .before .value-of .ensures) in
+    rw e at (c .walk .ensures)
 
 pub walk-on-spec : {M : Type 1} → statement M
-walk-on-spec = tie.close (tie.spec value-of-requires sub-walk walk-requires returns)
+walk-on-spec = tie.close (tie.spec value-of-requires (λ c. search needs) (λ c κs. search needs) returns)

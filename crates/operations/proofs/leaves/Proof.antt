@@ -8,9 +8,6 @@ use borrow.Author.Needs.{needs}
 use Rattle.operations.proofs.leaves.Statement.{statement}
 use Rattle.operations.proofs.leaves.Tie as tie
 
-shl-result : tie.Need-shl-result
-shl-result c = search needs
-
 returns : tie.Need-returns
 returns c =
     let few : c .args .height ≤ 20 = omega arith in
@@ -19,4 +16,4 @@ returns c =
     mod-eq-of-lt fits ∙ omega arith
 
 pub leaves-spec : {M : Type 1} → statement M
-leaves-spec = tie.close (tie.spec shl-result returns)
+leaves-spec = tie.close (tie.spec (λ c. search needs) returns)

@@ -1,17 +1,14 @@
 -- What the definition of checking gives, by the law `numbers`.
 use borrow.Author.Needs.{needs}
-use Rattle.keyed.specs.Sha2.{sha2}
+use Rattle.keyed.specs.Suites.{suite}
 use Rattle.operations.specs.Check.{checkOf}
-use Rattle.promises.proofs.Checking.{sha2-n, numbers}
+use Rattle.promises.proofs.Checking.{numbers}
 use Rattle.promises.proofs.checking_gives_each_number_exactly.Statement.{statement}
 use Rattle.promises.proofs.checking_gives_each_number_exactly.Tie as tie
 
-check-requires : tie.Need-check-requires
-check-requires c κs = search needs
-
 returns : tie.Need-returns
 unfolding checkOf
-returns c = rw (c .check .ensures) (numbers sha2 sha2-n _ _ _)
+returns c = rw (c .check .ensures) (numbers suite _ _ _)
 
 pub checking-gives-each-number-exactly-spec : {M : Type 1} → statement M
-checking-gives-each-number-exactly-spec = tie.close (tie.spec check-requires returns)
+checking-gives-each-number-exactly-spec = tie.close (tie.spec (λ c κs. search needs) returns)

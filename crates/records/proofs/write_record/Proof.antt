@@ -5,77 +5,33 @@ use Prim.Native.Nat.{ℕ, _+_}
 use lib.ListN.{drop}
 use Rattle.lists.specs.Bytes.{toByte}
 use Rattle.lists.proofs.Numbers.{length-toByte}
-use Rattle.records.proofs.Pasted.{three-parts, copied, three-before}
+use Rattle.records.proofs.Pasted.{filled, three-parts, copied, three-before}
 use Rattle.records.specs.Records.{recordBytes}
 use borrow.Author.Needs.{needs}
 use Rattle.records.proofs.write_record.Statement.{statement}
 use Rattle.records.proofs.write_record.Tie as tie
-
-sub-write-number : tie.Need-sub-write-number
-sub-write-number c = search needs
-
-part-write-number-start : tie.Need-part-write-number-start
-part-write-number-start c = search needs
-
-part-write-number-end : tie.Need-part-write-number-end
-part-write-number-end c = search needs
-
-write-number-requires : tie.Need-write-number-requires
-write-number-requires c κs = search needs
-
-sub-copy : tie.Need-sub-copy
-sub-copy c = search needs
-
-part-copy-start : tie.Need-part-copy-start
-part-copy-start c = search needs
-
-part-copy-end : tie.Need-part-copy-end
-part-copy-end c = search needs
-
-copy-requires : tie.Need-copy-requires
-copy-requires c κs = search needs
-
-sub-write-value : tie.Need-sub-write-value
-sub-write-value c = search needs
-
-part-write-value-start : tie.Need-part-write-value-start
-part-write-value-start c = search needs
-
-part-write-value-end : tie.Need-part-write-value-end
-part-write-value-end c = search needs
-
-write-value-requires : tie.Need-write-value-requires
-write-value-requires c κs = search needs
-
-same-length : tie.Need-same-length
-same-length c = search needs
 
 returns : tie.Need-returns
 unfolding recordBytes
 returns c =
     let s = c .before .before .before .before .before .before .before .before .before .before .before .before .before .before in
     let m = s .args .material .now in
-    let ex : c .before .before .before .before .before .before .before .before .before .before .write-number .last .0 ≡ toByte 1 4 = c .before .before .before .before .before .before .before .before .before .before .write-number .ensures in
-    let ey : c .before .before .before .before .before .before .copy .last .1 .0 ≡ m = copied m (drop 4 (c .before .before .before .before .before .before .before .before .before .before .write-number .last .0 ++ drop 4 (s .args .out .now))) _ 96 (s .pre .1) (c .before .before .before .before .before .before .copy .ensures .1) in
-    let ez : c .before .before .write-value .last .0 ≡ s .args .root = c .before .before .write-value .ensures in
-    three-parts (s .args .out .now) (c .before .before .before .before .before .before .before .before .before .before .write-number .last .0) (c .before .before .before .before .before .before .copy .last .1 .0) (c .before .before .write-value .last .0) _ _ _ 4 96 32 100 ex ey ez (length-toByte 1 4) (s .pre .1) refl (s .pre .0)
+    let ex : c .before .before .before .before .before .before .before .before .before .before .write-number .last .0 ≡ toByte 1 4 =
+    c .before .before .before .before .before .before .before .before .before .before .write-number .ensures in
+    let ey : c .before .before .before .before .before .before .copy .last .1 .0 ≡ m =
+    copied m (drop 4 (c .before .before .before .before .before .before .before .before .before .before .write-number .last .0 ++ drop 4
+    (s .args .out .now))) _ 96 (s .pre .1) (c .before .before .before .before .before .before .copy .ensures .1) in
+    let ez : c .before .before .write-value .last .0 ≡ s .args .root =
+    filled _ _ _ (c .before .before .write-value .kept .0) (c .before .before .write-value .ensures) (search needs) in
+    three-parts (s .args .out .now)
+    (c .before .before .before .before .before .before .before .before .before .before .write-number .last .0)
+    (c .before .before .before .before .before .before .copy .last .1 .0)
+    (c .before .before .write-value .last .0) _ _ _ 4 96 32 100 ex ey ez (length-toByte 1 4) (s .pre .1) refl (s .pre .0)
     ∙ ap (λ (x : List ℕ). toByte 1 4 ++ x) (three-before m (s .args .root) 32 (s .pre .1))
 
 pub write-record-spec : {M : Type 1} → statement M
 write-record-spec =
     tie.close
-    (tie.spec
-    sub-write-number
-    part-write-number-start
-    part-write-number-end
-    write-number-requires
-    sub-copy
-    part-copy-start
-    part-copy-end
-    copy-requires
-    sub-write-value
-    part-write-value-start
-    part-write-value-end
-    write-value-requires
-    same-length
-    returns)
+    (tie.spec (λ c. search needs) (λ c. search needs) (λ c. search needs) (λ c κs. search needs) (λ c. search needs)
+    (λ c. search needs) (λ c. search needs) (λ c κs. search needs) (λ c. search needs) (λ c. search needs)
+    (λ c. search needs) (λ c κs. search needs) (λ c. search needs) returns)

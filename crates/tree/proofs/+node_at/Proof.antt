@@ -6,7 +6,7 @@ use borrow.Author.Needs.{needs}
 use borrow.Fn.Kinds.{In}
 use borrow.Fn.PlainCycle.{Measures, is, falls, and}
 use Rattle.rfc8391.proofs.Trees.{node-leaf, node-join}
-use Rattle.keyed.specs.Seeds.{suiteOf}
+use Rattle.keyed.specs.Seeds.{suiteOf, seedOf}
 use Rattle.tree.proofs.Bounds.{within-position, within-left, within-right}
 use Rattle.tree.proofs.node_at.Reads as node-at
 use Rattle.tree.proofs.node_at.Kinds as node-at-kinds
@@ -53,8 +53,10 @@ node-at-add-node-at t c = omega (arith, within-position (c .before .before .args
 node-at-node-at-requires-2 : (t : ℕ) → node-at-lts.Need-node-at-requires-2 (calls t) (node-at-at t) node-at.Post
 node-at-node-at-requires-2 t c κs =
     let a = c .before .before .args in
-    let e : a .height ≡ suc (a .height - 1) = omega arith in
-    (omega (arith, c .before .before .pre .0), (c .before .before .pre .1 .0, within-right (a .height) (a .height - 1) (a .position) e (c .before .before .pre .1 .1)))
+    let e : a .height ≡ suc (a .height - 1) = omega arith in (
+      omega (arith, c .before .before .pre .0),
+      (c .before .before .pre .1 .0, within-right (a .height) (a .height - 1) (a .position) e (c .before .before .pre .1 .1)),
+    )
 
 node-at-join-at-requires : (t : ℕ) → node-at-lts.Need-join-at-requires (calls t) (node-at-at t) node-at.Post
 node-at-join-at-requires t c κs = search needs
@@ -66,7 +68,8 @@ node-at-returns-2 : (t : ℕ) → node-at-lts.Need-returns-2 (calls t) (node-at-
 node-at-returns-2 t c =
     let a = c .before .before .before .before .args in
     let e : a .height ≡ suc (a .height - 1) = omega arith in
-    node-join (suiteOf (a .s)) (a .s .bytes) (a .a) _ (a .height) (a .height - 1) (a .position) _ _ _ e (c .before .before .node-at .ensures) (c .before .node-at2 .ensures) (c .join-at .ensures)
+    node-join (suiteOf (a .s)) (seedOf (a .s)) (a .a) _ (a .height) (a .height - 1) (a .position) _ _ _ e
+    (c .before .before .node-at .ensures) (c .before .node-at2 .ensures) (c .join-at .ensures)
 
 pub +node-at-spec : {M : Type 1} → statement M
 +node-at-spec = close μ-node-at λ t. node-at-lts.spec (calls t)

@@ -6,12 +6,6 @@ use Rattle.rfc8391.proofs.Trees.{sibling-of-left, sibling-of-right}
 use Rattle.tree.proofs.beside.Statement.{statement}
 use Rattle.tree.proofs.beside.Tie as tie
 
-add-result : tie.Need-add-result
-add-result c = search needs
-
-sub-result : tie.Need-sub-result
-sub-result c = search needs
-
 returns : tie.Need-returns
 returns c = sym (sibling-of-left _ (c .if1 .taken))
 
@@ -19,4 +13,4 @@ returns-2 : tie.Need-returns-2
 returns-2 c = sym (sibling-of-right _ (c .if1 .left))
 
 pub beside-spec : {M : Type 1} → statement M
-beside-spec = tie.close (tie.spec add-result sub-result returns returns-2)
+beside-spec = tie.close (tie.spec (λ c. search needs) (λ c. search needs) returns returns-2)

@@ -6,12 +6,6 @@ use Rattle.rfc8391.proofs.Trees.{climb-left, climb-right}
 use Rattle.tree.proofs.climb_by.Statement.{statement}
 use Rattle.tree.proofs.climb_by.Tie as tie
 
-join-at-requires : tie.Need-join-at-requires
-join-at-requires c κs = search needs
-
-join-at-requires-2 : tie.Need-join-at-requires-2
-join-at-requires-2 c κs = search needs
-
 returns : tie.Need-returns
 returns c = c .join-at .ensures ∙ sym (climb-left _ _ _ _ _ _ _ (c .before .if1 .taken))
 
@@ -19,4 +13,4 @@ returns-2 : tie.Need-returns-2
 returns-2 c = c .join-at2 .ensures ∙ sym (climb-right _ _ _ _ _ _ _ (c .before .if1 .left))
 
 pub climb-by-spec : {M : Type 1} → statement M
-climb-by-spec = tie.close (tie.spec join-at-requires join-at-requires-2 returns returns-2)
+climb-by-spec = tie.close (tie.spec (λ c κs. search needs) (λ c κs. search needs) returns returns-2)

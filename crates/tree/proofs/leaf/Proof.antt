@@ -6,34 +6,16 @@ use Rattle.tree.proofs.Joins.{leaf-by}
 use Rattle.tree.proofs.leaf.Statement.{statement}
 use Rattle.tree.proofs.leaf.Tie as tie
 
-ots-at-requires : tie.Need-ots-at-requires
-ots-at-requires c κs = search needs
-
-secrets-of-requires : tie.Need-secrets-of-requires
-secrets-of-requires c κs = search needs
-
-ends-of-requires : tie.Need-ends-of-requires
-ends-of-requires c κs = search needs
-
-ltree-at-requires : tie.Need-ltree-at-requires
-ltree-at-requires c κs = search needs
-
-ltree-root-requires : tie.Need-ltree-root-requires
-ltree-root-requires c κs = search needs
-
 returns : tie.Need-returns
 returns c =
     let a = c .before .before .before .before .before .args in
     let x = c .before .before .before .secrets-of in
-    leaf-by (a .secret) (a .s) (a .a) (a .i) (x .result) _ _ _ (x .ensures .1) (x .ensures .2) (x .ensures .3 ∙ c .before .before .before .before .ots-at .ensures) (x .ensures .4) (c .before .before .ends-of .ensures) (c .before .ltree-at .ensures) (c .ltree-root .ensures)
+    leaf-by (a .secret) (a .s) (a .a) (a .i) (x .result) _ _ _ (x .ensures .1) (x .ensures .2)
+    (x .ensures .3 ∙ c .before .before .before .before .ots-at .ensures) (x .ensures .4) (c .before .before .ends-of .ensures)
+    (c .before .ltree-at .ensures) (c .ltree-root .ensures)
 
 pub leaf-spec : {M : Type 1} → statement M
 leaf-spec =
     tie.close
-    (tie.spec
-    ots-at-requires
-    secrets-of-requires
-    ends-of-requires
-    ltree-at-requires
-    ltree-root-requires
-    returns)
+    (tie.spec (λ c κs. search needs) (λ c κs. search needs) (λ c κs. search needs) (λ c κs. search needs)
+    (λ c κs. search needs) returns)

@@ -1,0 +1,3 @@
+-- The laws of `signatures`.
+pub mod Signed
+pub mod Recomputed
