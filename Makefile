@@ -2,7 +2,7 @@
 .DEFAULT_GOAL := help
 SHELL := bash
 .SHELLFLAGS := -euo pipefail -c
-.PHONY: help run library install test fuzz bench fmt cases clean
+.PHONY: help run library install test fuzz bench beside fmt cases clean
 
 help: ## this list
 	@sed -n 's/^\([a-z]*\):.*## /  make \1	/p' $(MAKEFILE_LIST) | expand -t 16
@@ -64,6 +64,9 @@ fuzz: ## fuzz every export for SECONDS=600, on what earlier runs found in target
 
 bench: ## SHA-256, a leaf, making, signing and a check beside plain C, the last three beside Botan and Bouncy Castle; the stack of each call
 	@bench/run
+
+beside: ## making, signing and a check in turn with another build's target/native/libzabrintoly.a, OTHER=that file
+	@bench/beside '$(OTHER)'
 
 fmt: ## lay out every .rt and .antt file
 	@rt fmt

@@ -4,18 +4,10 @@
 // Runs of the two alternate, and the least of many runs counts.
 #include <stdio.h>
 #include <string.h>
-#include <time.h>
 
 #include "bench.h"
 
 static uint8_t message[65536], secret[32], public_seed[32], ours[32], plain[32];
-
-// Processor time of all threads: what else the machine does in a run of seconds doesn't count, and Botan's threads do.
-double seconds(void) {
-    struct timespec t;
-    clock_gettime(CLOCK_PROCESS_CPUTIME_ID, &t);
-    return t.tv_sec + t.tv_nsec * 1e-9;
-}
 
 static void block(void) { zab_probe_sha256(message, sizeof message, ours); }
 static void leaf(void) { zab_probe_leaf(secret, public_seed, 5, ours); }
@@ -54,7 +46,8 @@ int main(void) {
     if (!compare_checks()) return 1;
     compare("block", block, sizeof message / 64 + 1, 2000);
     compare("leaf", leaf, LEAF, 500);
-    // The library's functions are aligned to 16 bytes, so another build of this program can put them elsewhere in a line.
+    printf("note plain C is compiled by gcc %s with -O3\n", __VERSION__);
+    // The library's functions are aligned to 16 bytes, on Arm to 4, so another build of this program can put them elsewhere in a line.
     printf("note our SHA-256 begins at byte %d of a 64-byte line\n",
            (int)((uintptr_t)zab_probe_sha256 % 64));
     return compare_pairs() ? 0 : 1;

@@ -19,6 +19,8 @@ enum { STEP = 4, JOIN = 6, SECRETS = 3 + 67, LEAF = 67 * 15 * STEP + 66 * JOIN +
 struct check {
     uint8_t key[68], message[32], signature[2500], compressions[2];
 };
+enum { CHECKS = 16 };
+extern struct check checks[CHECKS];
 
 struct contender {
     const char *name;
@@ -34,6 +36,9 @@ enum { PLAIN, OURS, CONTENDERS = 5 };
 extern struct contender contenders[CONTENDERS];
 
 double seconds(void);
+bool read_checks(void);
+bool tells_apart(const struct contender *who);
+
 void plain_work(long compressions);
 long needed(const struct check *check);
 long making(void);
@@ -42,6 +47,10 @@ bool compare_checks(void);
 bool compare_pairs(void);
 
 void plain_sha256(const uint8_t *message, size_t length, uint8_t out[32]);
+
+bool we_accept(const struct check *check);
+bool we_make(struct check *pair);
+bool we_sign(struct check *pair);
 
 void zab_probe_sha256(const uint8_t *message, size_t length, uint8_t out[32]);
 void zab_probe_leaf(const uint8_t secret[32], const uint8_t public_seed[32], uint32_t leaf, uint8_t out[32]);

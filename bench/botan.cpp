@@ -21,11 +21,15 @@ static std::unique_ptr<Botan::XMSS_PrivateKey> made;
 
 bool botan_may_use(bool sha, bool bmi2) {
     CPUID::initialize();
+#ifdef BOTAN_TARGET_CPU_IS_X86_FAMILY
     if (!sha) CPUID::clear_cpuid_bit(CPUID::CPUID_SHA_BIT);
     if (!bmi2) CPUID::clear_cpuid_bit(CPUID::CPUID_BMI2_BIT);
+#else
+    if (!sha) CPUID::clear_cpuid_bit(CPUID::CPUID_ARM_SHA2_BIT);
+#endif
     const std::string flags = ' ' + CPUID::to_string() + ' ';
     const auto has = [&](const char* name) { return flags.find(name) != std::string::npos; };
-    return has(" intel_sha ") == sha && has(" bmi2 ") == bmi2;
+    return (has(" intel_sha ") || has(" arm_sha2 ")) == sha && has(" bmi2 ") == bmi2;
 }
 
 bool botan_accepts(const check* c) {

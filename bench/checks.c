@@ -6,23 +6,9 @@
 
 #include "bench.h"
 
-enum { CHECKS = 16, ROUNDS = 150 };
+enum { ROUNDS = 150 };
 
-static struct check checks[CHECKS];
 static double least[CONTENDERS][CHECKS];
-
-// Whether a checker accepts every signature and refuses each with its last bit changed.
-static bool tells_apart(const struct contender *who) {
-    for (int i = 0; i < CHECKS; i++) {
-        struct check damaged = checks[i];
-        damaged.signature[sizeof damaged.signature - 1] ^= 1;
-        if (!who->accepts(&checks[i]) || who->accepts(&damaged)) {
-            fprintf(stderr, "bench: %s: signature %d is refused, or accepted when damaged\n", who->name, i);
-            return false;
-        }
-    }
-    return true;
-}
 
 // Botan's switches are set outside the measured stretch: asking the processor takes long on a virtual machine.
 static void time_round(int who) {
@@ -61,11 +47,7 @@ static bool all_tell_apart(void) {
 }
 
 bool compare_checks(void) {
-    if (fread(checks, sizeof checks[0], CHECKS, stdin) != CHECKS) {
-        fputs("bench: standard input is not sixteen checks\n", stderr);
-        return false;
-    }
-    if (!all_tell_apart()) return false;
+    if (!read_checks() || !all_tell_apart()) return false;
     for (int round = 0; round < ROUNDS; round++)
         for (int who = 0; who < CONTENDERS; who++)
             if (contenders[who].on_this_machine) time_round(who);
