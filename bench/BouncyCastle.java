@@ -52,7 +52,7 @@ class BouncyCastle {
         return checks;
     }
 
-    // Processor time of this thread, as bench.c counts it; Bouncy Castle starts no other.
+    // Processor time of this thread, as given.c counts it; Bouncy Castle starts no other.
     static long now() {
         return ManagementFactory.getThreadMXBean().getCurrentThreadCpuTime();
     }

@@ -20,13 +20,17 @@ use Rattle.keyed.specs.declared.Seed.{Seed}
 pub only-sha2 : (hash : Hash) → hash ≡ Sha2
 only-sha2 Sha2 = refl
 
--- the suite of a seed that was prepared for it
+-- the suite of SHA-256 by its hash, and the bytes of its values
 pub suite-sha2 : suite Sha2 ≡ sha2
 unfolding suite
 suite-sha2 = refl
 
+pub sha2-n : sha2 .n ≡ 32
+unfolding sha2
+sha2-n = refl
+
 -- a value of any of them stands in 32 bytes
-pub suite-fits : (hash : Hash) → suite hash .n ≤ 32
+suite-fits : (hash : Hash) → suite hash .n ≤ 32
 unfolding suite sha2
 suite-fits Sha2 = omega arith
 

@@ -1,6 +1,6 @@
 // F, H, PRF and the message hash of RFC 8391 by the hash of a key type, a file a suite, and seeds that are prepared once.
 // Uses sha256 and rfc8391.
-// Chains and trees use it. A seed carries its hash, and contracts above speak of suiteOf a seed: a further hash changes nothing there.
+// Everything that hashes uses it. A seed carries its hash, and contracts above speak of suiteOf a seed: another hash changes nothing there.
 ghost use mathlib.Core.Path.{_≡_};
 ghost use mathlib.Core.List.{_++_};
 ghost use Prim.Native.Nat.{_≤_};

@@ -4,7 +4,7 @@ use mathlib.Core.List.{List}
 use Prim.Native.Nat.{ℕ, _+_, _<_, _≤_}
 use native.Mathlib.Numerals.{add-one}
 use native.Mathlib.Omega.{arith}
-use lib.ListN.{length, set, length-set}
+use lib.ListN.{length, take, set, length-set}
 use lib.Seq.{take-suc-set, take-all}
 use Rattle.lists.specs.Lists.{tab}
 use Rattle.lists.specs.Loops.{Filling}
@@ -27,3 +27,7 @@ pub filling-end {ℓ} : {A : Type ℓ} (n : ℕ) (f : ℕ → A) (l : List A) (i
 filling-end n f l i h inv =
     let e : i ≡ n = omega (arith, inv .2) in
     sym (take-all i l (omega (arith, inv .1))) ∙ inv .0 ∙ ap (λ (k : ℕ). tab k f) e
+
+-- when k places are filled, they are those of the rule
+pub filling-front {ℓ} : {A : Type ℓ} (n : ℕ) (f : ℕ → A) (l : List A) (i k : ℕ) → i ≡ k → Filling n f l i → take k l ≡ tab k f
+filling-front n f l i k e inv = rw e at (inv .0)

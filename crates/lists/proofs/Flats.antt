@@ -1,12 +1,12 @@
--- Laws of `flat`, of lists of equal length above all.
+-- Laws of `flat` and `parts`, of lists of equal length above all.
 use mathlib.Core.Path.{_≡_, sym, ap, ap₂, _∙_}
 use mathlib.Core.List.{List, [], _∷_, _++_, append-nil, append-assoc}
 use mathlib.Core.Logic.{⊎-elim}
-use Prim.Native.Nat.{ℕ, zero, suc, _+_, _*_, _<_}
-use native.Mathlib.Nat.{mul-zero, mul-suc, not-suc-le-zero, le-of-suc-le-suc, eq-or-lt-of-le}
+use Prim.Native.Nat.{ℕ, zero, suc, _+_, _-_, _*_, _<_, _≤_}
+use native.Mathlib.Nat.{zero-add, mul-zero, mul-suc, mul-le-mul-left, not-suc-le-zero, le-of-suc-le-suc, eq-or-lt-of-le}
 use native.Mathlib.Omega.{arith}
 use lib.ListN.{length, getD, take, drop, length-append}
-use lib.Seq.{take-at, drop-at, take-add, drop-drop}
+use lib.Seq.{take-nil, take-at, drop-at, take-add, take-take, drop-drop}
 use Rattle.lists.specs.Lists.{tab, flat, parts}
 use Rattle.lists.proofs.Tabs.{tab-getD, tab-ext}
 
@@ -66,3 +66,27 @@ flat-parts w (suc n) b l =
     flat-snoc (tab n (λ c. take w (drop (b + w * c) l))) (take w (drop (b + w * n) l))
     ∙ ap (λ (t : List _). t ++ take w (drop (b + w * n) l)) (flat-parts w n b l)
     ∙ sym e
+
+-- part c of k, of n places each, lies within them
+part-within : (n k c : ℕ) → c < k → n * c + n ≤ n * k
+part-within n k c h =
+    let m : n * suc c ≤ n * k = mul-le-mul-left n h in
+    omega (arith, mul-suc n c)
+
+-- and so within what holds all k; w is how the code has n
+pub value-within : (n w k c l : ℕ) → w ≡ n → c < k → n * k ≤ l → w * c + w ≤ l
+value-within n w k c l e h q = rw e (let p = part-within n k c h in omega arith)
+
+-- the parts of a part are the whole's
+drop-of-take {ℓ} : {A : Type ℓ} (i m : ℕ) (l : List A) → drop i (take m l) ≡ take (m - i) (drop i l)
+drop-of-take zero m l = let e : m - 0 ≡ m = omega arith in rw e
+drop-of-take (suc i) zero l = let e : zero - suc i ≡ 0 = omega arith in rw e
+drop-of-take (suc i) (suc m) [] = sym (take-nil (suc m - suc i))
+drop-of-take (suc i) (suc m) (x ∷ l) = let e : suc m - suc i ≡ m - i = omega arith in rw e (drop-of-take i m l)
+
+pub parts-of-part {ℓ} : {A : Type ℓ} (w k b m : ℕ) (l : List A) → w * k ≤ m → parts w k 0 (take m (drop b l)) ≡ parts w k b l
+unfolding parts
+parts-of-part w k b m l h =
+    tab-ext k _ _ (λ c q.
+    let p : w * c + w ≤ w * k = part-within w k c q in
+    rw (zero-add, drop-of-take (w * c) m (drop b l), drop-drop (w * c) b l) (take-take w (m - w * c) (drop (b + w * c) l) (omega arith)))

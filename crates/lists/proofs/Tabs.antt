@@ -7,7 +7,7 @@ use native.Mathlib.Nat.{not-suc-le-zero, le-of-suc-le-suc, eq-or-lt-of-le}
 use native.Mathlib.Numerals.{add-one}
 use native.Mathlib.Omega.{arith}
 use lib.ListN.{length, take, getD, length-append, List·getD-append}
-use lib.Seq.{take-suc, take-all, getD-at}
+use lib.Seq.{take-suc, take-all, take-append-le, getD-at}
 use Rattle.lists.specs.Lists.{tab}
 
 -- a list by its rule has as many elements as it says
@@ -48,3 +48,13 @@ tab-take l d (suc i) h = ap (λ (t : List _). t ++ (getD l i d ∷ [])) (tab-tak
 -- a whole list is made by reading it
 pub tab-getD {ℓ} : {A : Type ℓ} (n : ℕ) (l : List A) (d : A) → length l ≡ n → tab n (λ k. getD l k d) ≡ l
 tab-getD n l d e = tab-take l d n (omega arith) ∙ take-all n l (omega arith)
+
+-- the front of a list by its rule
+pub take-tab {ℓ} : {A : Type ℓ} (k n : ℕ) (f : ℕ → A) → k ≤ n → take k (tab n f) ≡ tab k f
+unfolding tab
+take-tab k zero f h = let e : k ≡ 0 = omega arith in rw e
+take-tab k (suc n) f h =
+    ⊎-elim
+    (λ (e : k ≡ suc n). rw e (take-all (suc n) (tab (suc n) f) (omega (arith, length-tab (suc n) f))))
+    (λ (q : k < suc n). take-append-le k (tab n f) (f n ∷ []) (omega (arith, length-tab n f)) ∙ take-tab k n f (omega arith))
+    (eq-or-lt-of-le h)

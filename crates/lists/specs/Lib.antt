@@ -2,3 +2,4 @@
 pub mod Lists
 pub mod Bytes
 pub mod Loops
+pub mod Fronts

@@ -27,8 +27,3 @@ turns (suc n) f x = f n (turns n f x)
 -- the n parts of l, of w elements each, from place b on
 unfoldable pub parts {ℓ} : {A : Type ℓ} → ℕ → ℕ → ℕ → List A → List (List A)
 parts w n b l = tab n (λ c. take w (drop (b + w * c) l))
-
--- of each list of l, its first n elements
-unfoldable pub fronts {ℓ} : {A : Type ℓ} → ℕ → List (List A) → List (List A)
-fronts n [] = []
-fronts n (x ∷ l) = take n x ∷ fronts n l

@@ -8,7 +8,6 @@ use lib.ListN.{getD, take, drop}
 use lib.Seq.{getD-take}
 use Rattle.lists.specs.Lists.{tab, parts}
 use Rattle.lists.proofs.Tabs.{tab-ext, getD-tab}
-use Rattle.lists.proofs.Fronts.{part-within}
 use Rattle.rfc8391.specs.Suite.{Suite, xor}
 use Rattle.rfc8391.specs.Address.{setChainAddress, setHashAddress, setKeyAndMask}
 use Rattle.rfc8391.specs.Wots.{prfAt, digits, len, len₁, step, chain, wotsSign, wotsPkFromSig}
@@ -16,9 +15,13 @@ use Rattle.rfc8391.specs.declared.Address.{Address}
 use Rattle.rfc8391.proofs.Digits.{digit-small, digits-front}
 use Rattle.rfc8391.proofs.Values.{xor-front}
 
--- value c of k lies within what holds all k
-pub value-within : (n w k c l : ℕ) → w ≡ n → c < k → n * k ≤ l → w * c + w ≤ l
-value-within n w k c l e h q = rw e (let p = part-within n k c h in omega arith)
+-- the digits by which signing and checking walk are those of the value at m's front, and none is over 15
+module _ (S : Suite) (m d : List ℕ) (e : take (len S) d ≡ digits (len₁ S) m) where
+  digit-by : (c : ℕ) → c < len S → getD d c 0 ≡ getD (digits (len₁ S) (take (S .n) m)) c 0
+  digit-by c h = sym (getD-take (len S) d c 0 h) ∙ ap (λ (l : List ℕ). getD l c 0) (e ∙ sym (digits-front (S .n) m))
+
+  pub digit-most : (c : ℕ) → c < len S → getD d c 0 ≤ 15
+  digit-most c h = rw (digit-by c h) (digit-small (len₁ S) (take (S .n) m) c)
 
 module _ (S : Suite) (seed : List ℕ) where
   -- what chain c of the values leads to, by the digits d
@@ -43,20 +46,13 @@ module _ (S : Suite) (seed : List ℕ) where
   unfolding step
   step-by a j x key mask y r h ek em ey er = rw (er, ey, xor-front (S .n) 32 x mask h, ek, em)
 
-  -- the digits by which signing and checking walk are those of the value at m's front
-  digit-by : (m d : List ℕ) → take (len S) d ≡ digits (len₁ S) m → (c : ℕ) → c < len S → getD d c 0 ≡ getD (digits (len₁ S) (take (S .n) m)) c 0
-  digit-by m d e c h = sym (getD-take (len S) d c 0 h) ∙ ap (λ (l : List ℕ). getD l c 0) (e ∙ sym (digits-front (S .n) m))
-
-  pub small : (m d : List ℕ) → take (len S) d ≡ digits (len₁ S) m → (c : ℕ) → c < len S → getD d c 0 ≤ 15
-  small m d e c h = rw (digit-by m d e c h) (digit-small (len₁ S) (take (S .n) m) c)
-
   -- the chain ends from a signature of the value m
   pub ends-from : (a : Address) (m d values : List ℕ) → take (len S) d ≡ digits (len₁ S) m
       → tab (len S) (endFrom a d values) ≡ wotsPkFromSig S seed a (take (S .n) m) (parts (S .n) (len S) 0 values)
   unfolding wotsPkFromSig parts endFrom
   ends-from a m d values e =
       tab-ext (len S) _ _ (λ c h.
-      rw (digit-by m d e c h)
+      rw (digit-by S m d e c h)
       (ap (λ (x : List ℕ). chain S seed (setChainAddress a c) x (getD (digits (len₁ S) (take (S .n) m)) c 0) (15 - getD (digits (len₁ S) (take (S .n) m)) c 0))
       (ap (λ (i : ℕ). take (S .n) (drop i values)) (sym (zero-add (S .n * c))) ∙ sym (getD-tab (len S) _ [] c h))))
 
@@ -64,4 +60,4 @@ module _ (S : Suite) (seed : List ℕ) where
   pub values-of : (a : Address) (m d : List ℕ) (sk : ℕ → List ℕ) → take (len S) d ≡ digits (len₁ S) m
       → tab (len S) (λ c. chain S seed (setChainAddress a c) (sk c) 0 (getD d c 0)) ≡ wotsSign S seed a (take (S .n) m) sk
   unfolding wotsSign
-  values-of a m d sk e = tab-ext (len S) _ _ (λ c h. ap (chain S seed (setChainAddress a c) (sk c) 0) (digit-by m d e c h))
+  values-of a m d sk e = tab-ext (len S) _ _ (λ c h. ap (chain S seed (setChainAddress a c) (sk c) 0) (digit-by S m d e c h))

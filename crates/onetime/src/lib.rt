@@ -1,13 +1,12 @@
 // WOTS+, the one-time scheme of RFC 8391: digits, chains, secret values by our rule.
 // Uses keyed and what lies below it.
-// The trees and the records use it.
+// The trees and the signatures use it.
 ghost use mathlib.Core.Path.{_≡_};
 ghost use mathlib.Core.List.{_++_};
 ghost use Prim.Native.Nat.{_+_, _-_, _*_, _/_, _%_, _^_, _<_, _≤_};
 ghost use lib.ListN.{length, getD, take};
-ghost use Rattle.lists.specs.Lists.{parts};
 ghost use Rattle.rfc8391.specs.Wots.{base_w, checksum, digits, len, step, chain, wotsPk, wotsPkFromSig};
-ghost use Rattle.keyed.specs.Seeds.{suiteOf, held, heldAll, seedOf, Prepared};
+ghost use Rattle.keyed.specs.Seeds.{suiteOf, held, heldAll, valuesIn, seedOf, Prepared};
 ghost use Rattle.onetime.specs.Secrets.{Ready, valueOf};
 use keyed::Seed;
 use rfc8391::Address;
@@ -45,7 +44,7 @@ fn digit_of(m: [u8; 32], k: usize, c: [u8; 2], i: usize) -> u8
     }
 }
 
-// How far the signer walks each chain for the value m: k digits of m, of which there are 64 or fewer, and three of their checksum.
+// How far the signer walks each chain for the value m: k digits of m, and three of their checksum.
 pub fn digits_of(m: [u8; 32], k: usize) -> [u8; 67]
     requires { ⌜ k ≤ 64 ⌝ }
     ensures { λ r. ⌜ take (k + 3) r ≡ digits k m ⌝ }
@@ -94,7 +93,9 @@ pub fn walk(s: Seed, a: Address, x: [u8; 32], from: u32, steps: u32) -> Walked
 // A walk from a secret value that writes what it reaches into a lent part of a value's length.
 pub fn walk_into(out: &mut [u8], s: Seed, a: Address, x: [u8; 32], steps: u32) -> Walked
     requires { ⌜ Prepared s × (length (now out) ≡ suiteOf s .n) × (steps ≤ 15) ⌝ }
-    ensures { λ r. ⌜ (held s (r .value) ≡ chain (suiteOf s) (seedOf s) a (held s x) 0 steps) × (now (out .exit) ≡ chain (suiteOf s) (seedOf s) a (held s x) 0 steps) ⌝ }
+    ensures { λ r. ⌜
+        (held s (r .value) ≡ chain (suiteOf s) (seedOf s) a (held s x) 0 steps) × (now (out .exit) ≡ held s (r .value))
+        ⌝ }
 {
     let w = walk(s, a, x, 0, steps);
     let v = w.value;
@@ -113,7 +114,9 @@ fn walk_on(part: &[u8], s: Seed, a: Address, digit: u32) -> Walked
 // The chain ends to which the chain values of a signature lead, at the one-time address a.
 pub fn ends_from(values: &[u8], s: Seed, a: Address, m: [u8; 32]) -> [[u8; 32]; 67]
     requires { ⌜ Prepared s × (length (now values) ≡ suiteOf s .n * len (suiteOf s)) ⌝ }
-    ensures { λ r. ⌜ heldAll s r ≡ wotsPkFromSig (suiteOf s) (seedOf s) a (held s m) (parts (suiteOf s .n) (len (suiteOf s)) 0 (now (values .entry))) ⌝ }
+    ensures { λ r. ⌜
+        heldAll s r ≡ wotsPkFromSig (suiteOf s) (seedOf s) a (held s m) (valuesIn s (len (suiteOf s)) (now (values .entry)))
+        ⌝ }
 {
     let n = keyed::value_length_of(s);
     let d = digits_of(m, 2 * n);
@@ -143,7 +146,9 @@ pub struct Secrets {
 }
 
 pub fn secrets_of(secret: [u8; 32], s: Seed, at: Address) -> Secrets
-    ensures { λ r. ⌜ Ready r × (r .secret ≡ secret) × (r .public ≡ s .bytes) × (r .at ≡ at) × (suiteOf (r .leaf) ≡ suiteOf s) ⌝ }
+    ensures { λ r. ⌜
+        Ready r × (r .secret ≡ secret) × (r .public ≡ s .bytes) × (r .at ≡ at) × (suiteOf (r .leaf) ≡ suiteOf s)
+        ⌝ }
 {
     let leaf_seed = keyed::prf(keyed::prepare_like(s, secret), rfc8391::to_bytes(at.w4));
     let leaf = keyed::prepare_like(s, leaf_seed);

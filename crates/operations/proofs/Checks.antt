@@ -1,31 +1,27 @@
 -- Checking's answer by the tests that lead to it: one law a number.
 use mathlib.Core.Path.{_≡_, sym, ap, _∙_}
 use mathlib.Core.List.{List}
+use mathlib.Core.Logic.{_↔_}
 use Prim.Native.Nat.{ℕ, _^_, _<_, _≤_}
 use lib.ListN.{length, take}
 use Rattle.outcomes.proofs.Outcomes.{outcome-at, outcome-none}
 use Rattle.lists.specs.Bytes.{number}
 use Rattle.rfc8391.specs.Xmss.{verify}
-use Rattle.rfc8391.specs.Formats.{keyFrom, signatureFrom, singleTree}
+use Rattle.rfc8391.specs.Formats.{valueLength, keyFrom, typeOf}
 use Rattle.rfc8391.specs.declared.Hash.{Hash}
 use Rattle.rfc8391.specs.declared.KeyType.the-variants.{Served, Unknown}
 use Rattle.keyed.specs.Suites.{suite}
-use Rattle.keyed.proofs.Suites.{suite-length}
 use Rattle.signatures.specs.Recomputed.{recomputed}
-use Rattle.operations.specs.Check.{typeOf, Valid, checkRefusals, checkOf}
+use Rattle.operations.specs.Check.{checkRefusals, checkOf}
 use Rattle.operations.specs.declared.Checked.{Checked}
 use Rattle.operations.proofs.Types.{ServedAs, served-as}
 
 abbrev checked : ℕ → Checked
 checked o = record { outcome = o }
 
--- two roots agree in the bytes that the code compares exactly when they agree
-module _ (n w : ℕ) (a b x y : List ℕ) (e : w ≡ n) (ea : take n a ≡ x) (eb : take n b ≡ y) where
-  pub roots-agree : take w a ≡ take w b → x ≡ y
-  roots-agree q = sym ea ∙ (rw e at q) ∙ eb
-
-  pub roots-differ : (take w a ≡ take w b → ⊥) → x ≡ y → ⊥
-  roots-differ f q = f (rw e (ea ∙ q ∙ sym eb))
+-- two roots agree in the w bytes that the code compares exactly when they agree
+pub roots-agree : (n w : ℕ) (a b x y : List ℕ) → w ≡ n → take n a ≡ x → take n b ≡ y → (take w a ≡ take w b) ↔ (x ≡ y)
+roots-agree n w a b x y e ea eb = (λ q. sym ea ∙ (rw e at q) ∙ eb, λ q. rw e (ea ∙ q ∙ sym eb))
 
 module _ (key m sig : List ℕ) where
   pub key-wrong : (length key ≡ 68 → ⊥) → checked 1 ≡ checkOf key m sig
@@ -63,14 +59,9 @@ module _ (key m sig : List ℕ) where
           (outcome-at (checkRefusals suite key m sig) 4
           (k, (served .known, (rw (served .hash, served .height, served .length) e, (w, rw (served .height) q))))))
 
-      -- the root is the key's exactly when the signature is valid
-      valid-is : (recomputed (suite g) h key m sig ≡ keyFrom (suite g .n) key .root) ≡ Valid suite g h key m sig
-      unfolding verify
-      valid-is = ap (λ (n : ℕ). verify (suite g) singleTree h (keyFrom n key) m (signatureFrom n h sig)) (suite-length g)
-
-      pub root-wrong : length m ≤ 65536 → number sig 0 4 < 2 ^ h → (recomputed (suite g) h key m sig ≡ keyFrom (suite g .n) key .root → ⊥)
+      pub root-wrong : length m ≤ 65536 → number sig 0 4 < 2 ^ h → (recomputed g h key m sig ≡ keyFrom (valueLength g) key .root → ⊥)
           → checked 6 ≡ checkOf key m sig
-      unfolding checkOf checkRefusals
+      unfolding checkOf checkRefusals verify
       root-wrong w i q =
           ap checked
           (sym
@@ -80,14 +71,14 @@ module _ (key m sig : List ℕ) where
               served .known,
               (
                 rw (served .hash, served .height, served .length) e,
-                (w, (rw (served .height) i, rw (served .hash, served .height, ← valid-is) q)),
+                (w, (rw (served .height) i, rw (served .hash, served .height) q)),
               ),
             ),
           )))
 
-      pub root-right : length m ≤ 65536 → number sig 0 4 < 2 ^ h → recomputed (suite g) h key m sig ≡ keyFrom (suite g .n) key .root
+      pub root-right : length m ≤ 65536 → number sig 0 4 < 2 ^ h → recomputed g h key m sig ≡ keyFrom (valueLength g) key .root
           → checked 0 ≡ checkOf key m sig
-      unfolding checkOf checkRefusals
+      unfolding checkOf checkRefusals verify
       root-right w i q =
           ap checked
           (sym
@@ -97,7 +88,7 @@ module _ (key m sig : List ℕ) where
               served .known,
               (
                 rw (served .hash, served .height, served .length) e,
-                (w, (rw (served .height) i, (rw (served .hash, served .height, ← valid-is) q, tt))),
+                (w, (rw (served .height) i, (rw (served .hash, served .height) q, tt))),
               ),
             ),
           )))

@@ -6,12 +6,11 @@ use native.Mathlib.Omega.{arith}
 use lib.Dec.{eqb}
 use borrow.Author.Tests.{ne-eqb}
 use Rattle.lists.specs.Lists.{pick}
-use Rattle.rfc8391.specs.Formats.{valueLength, keyLength, keyType, pathStart, signatureLength}
+use Rattle.rfc8391.specs.Formats.{valueLength, keyLength, served, keyType, hashOf, heightOf, pathStart, signatureLength}
 use Rattle.rfc8391.specs.declared.Hash.{Hash}
 use Rattle.rfc8391.specs.declared.Hash.the-variants.{Sha2}
 use Rattle.rfc8391.specs.declared.KeyType.{KeyType}
 use Rattle.rfc8391.specs.declared.KeyType.the-variants.{Served, Unknown}
-use Rattle.operations.specs.Check.{hashOf, heightOf}
 
 -- no number but 1, 2 and 3 is a type
 pub no-type : (t : ℕ) → (t ≡ 1 → ⊥) → (t ≡ 2 → ⊥) → (t ≡ 3 → ⊥) → keyType t ≡ Unknown
@@ -77,12 +76,12 @@ served-as n g h l = go (eqb n 1) (eqb n 2) (eqb n 3)
 
 -- a type that is not Unknown is Served with its hash, its height and their length
 pub known-is-served : (n : ℕ) → (keyType n ≡ Unknown → ⊥)
-    → keyType n ≡ Served (hashOf (keyType n)) (heightOf (keyType n)) (signatureLength (valueLength (hashOf (keyType n))) (heightOf (keyType n)))
+    → keyType n ≡ served (hashOf (keyType n)) (heightOf (keyType n))
 unfolding keyType signatureLength pathStart valueLength
 known-is-served n = go (eqb n 1) (eqb n 2) (eqb n 3)
   where
     go : (a b c : Bool) → (table a b c ≡ Unknown → ⊥)
-        → table a b c ≡ Served (hashOf (table a b c)) (heightOf (table a b c)) (signatureLength (valueLength (hashOf (table a b c))) (heightOf (table a b c)))
+        → table a b c ≡ served (hashOf (table a b c)) (heightOf (table a b c))
     go true b c u = refl
     go false true c u = refl
     go false false true u = refl

@@ -8,32 +8,19 @@ use Rattle.outcomes.specs.Conditions.{is, isNot, unequal, over, orMore}
 use Rattle.outcomes.specs.Outcome.{Refusals, outcomeOf}
 use Rattle.rfc8391.specs.Suite.{Suite}
 use Rattle.rfc8391.specs.Xmss.{verify}
-use Rattle.rfc8391.specs.Formats.{valueLength, keyFrom, signatureLength, signatureFrom, keyType, singleTree}
+use Rattle.rfc8391.specs.Formats.{valueLength, keyFrom, signatureLength, signatureFrom, typeOf, hashOf, heightOf, singleTree}
 use Rattle.rfc8391.specs.declared.Hash.{Hash}
-use Rattle.rfc8391.specs.declared.Hash.the-variants.{Sha2}
-use Rattle.rfc8391.specs.declared.KeyType.{KeyType}
-use Rattle.rfc8391.specs.declared.KeyType.the-variants.{Served, Unknown}
+use Rattle.rfc8391.specs.declared.KeyType.the-variants.{Unknown}
 use Rattle.keyed.specs.Suites.{suite}
 use Rattle.operations.specs.Decisions.{unknown?, verify?}
 use Rattle.operations.specs.declared.Checked.{Checked}
-
--- the type that a key names, its hash and its height (Sha2 and 0 where it is none)
-abbrev pub typeOf : List ℕ → KeyType
-typeOf key = keyType (number key 0 4)
-
-abbrev pub hashOf : KeyType → Hash
-hashOf (Served hash height length) = hash
-hashOf Unknown = Sha2
-
-abbrev pub heightOf : KeyType → ℕ
-heightOf (Served hash height length) = height
-heightOf Unknown = 0
 
 -- over a suite for each hash, of which the key's type takes its own; a key of any type has 68 bytes
 module _ (suites : Hash → Suite) where
   -- the signature leads to the key's root
   abbrev pub Valid : Hash → ℕ → List ℕ → List ℕ → List ℕ → Type 0
-  Valid g h key m sig = verify (suites g) singleTree h (keyFrom (valueLength g) key) m (signatureFrom (valueLength g) h sig)
+  Valid hash h key m sig =
+      verify (suites hash) singleTree h (keyFrom (valueLength hash) key) m (signatureFrom (valueLength hash) h sig)
 
   unfoldable pub checkRefusals : List ℕ → List ℕ → List ℕ → Refusals
   checkRefusals key m sig =

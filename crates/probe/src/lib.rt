@@ -21,7 +21,11 @@ pub extern "C" fn zab_probe_sha256(m: &[u8], out: &mut [u8; 32])
 // One leaf of a key.
 #[no_mangle]
 pub extern "C" fn zab_probe_leaf(secret: &[u8; 32], public: &[u8; 32], i: u32, out: &mut [u8; 32])
-    ensures { λ _. ⌜ now (out .exit) ≡ leafOf sha2 (take 32 (now (public .entry))) singleTree (secrets sha2 (take 32 (now (secret .entry))) (take 32 (now (public .entry))) singleTree) i ⌝ }
+    ensures { λ _. ⌜
+        now (out .exit)
+        ≡ leafOf sha2 (take 32 (now (public .entry))) singleTree
+        (secrets sha2 (take 32 (now (secret .entry))) (take 32 (now (public .entry))) singleTree) i
+        ⌝ }
 {
     *out = tree::leaf(
         *secret,

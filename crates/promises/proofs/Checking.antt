@@ -11,9 +11,9 @@ use Rattle.outcomes.specs.Outcome.{outcomeOf}
 use Rattle.outcomes.proofs.Outcomes.{at-place, at-none, outcome-most}
 use Rattle.rfc8391.specs.Suite.{Suite}
 use Rattle.rfc8391.specs.Xmss.{verify}
-use Rattle.rfc8391.specs.Formats.{valueLength, pathStart, signatureLength}
+use Rattle.rfc8391.specs.Formats.{valueLength, pathStart, signatureLength, typeOf, hashOf, heightOf}
 use Rattle.rfc8391.specs.declared.Hash.{Hash}
-use Rattle.operations.specs.Check.{typeOf, hashOf, heightOf, checkRefusals}
+use Rattle.operations.specs.Check.{checkRefusals}
 use Rattle.operations.proofs.Types.{key-size, served-as, known-is-served}
 use Rattle.promises.specs.Checking.{SignatureFits, CheckNumbers, Accepted}
 

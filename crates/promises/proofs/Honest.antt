@@ -9,16 +9,15 @@ use Rattle.lists.proofs.Numbers.{length-toByte}
 use Rattle.rfc8391.specs.Suite.{Suite, Value}
 use Rattle.rfc8391.specs.Xmss.{publicKeyOf, signatureWith, signatureOf}
 use Rattle.rfc8391.specs.House.{secretValue, secrets}
-use Rattle.rfc8391.specs.Formats.{valueLength, keyBytes, pathStart, signatureLength, signatureBytes, keyType, singleTree, Accepts}
+use Rattle.rfc8391.specs.Formats.{valueLength, keyBytes, pathStart, signatureLength, signatureBytes, served, keyType, singleTree, Accepts}
 use Rattle.rfc8391.specs.declared.Hash.{Hash}
 use Rattle.rfc8391.specs.declared.Hash.the-variants.{Sha2}
-use Rattle.rfc8391.specs.declared.KeyType.the-variants.{Served}
 use Rattle.rfc8391.proofs.Honest.{root-value}
 use Rattle.rfc8391.proofs.Formats.{front-number}
 use Rattle.rfc8391.proofs.Accepted.{honest-accepted}
 use Rattle.keyed.specs.Sha2.{sha2}
 use Rattle.keyed.specs.Suites.{suite}
-use Rattle.keyed.proofs.Suites.{suite-length}
+use Rattle.keyed.proofs.Suites.{sha2-n, suite-length}
 use Rattle.records.specs.Records.{SecretRecord, recordBytes, recordFrom, publicKey}
 use Rattle.records.proofs.Read.{RecordFits, record-read}
 use Rattle.records.specs.Keys.{secretsOf, madeRecord, signedBy}
@@ -36,10 +35,6 @@ use Rattle.promises.proofs.Signing.{sign-given}
 pub signature-index : (S : Suite) (r : SecretRecord) (i : ℕ) (m : List ℕ) → i < 1024 → number (signatureBytes (signedBy S r i m)) 0 4 ≡ i
 unfolding signatureBytes signedBy signatureWith
 signature-index S r i m h = front-number i _ (omega arith)
-
-sha2-n : sha2 .n ≡ 32
-unfolding sha2
-sha2-n = refl
 
 -- over any suite with values of 32 bytes
 module _ (S : Suite) (n32 : S .n ≡ 32) (material : List ℕ) (l : length material ≡ 96) where
@@ -100,7 +95,7 @@ module _ (material : List ℕ) (l : length material ≡ 96) where
       let a : Accepts suite (keyFor material) m σ =
       subst (Accepts suite (keyFor material) m) (sym q) (made-accepts material l i m h) in
       let x : number σ 0 4 ≡ i = ap (λ (s : List ℕ). number s 0 4) q ∙ signature-index sha2 (madeRecord sha2 material) i m h in
-      let t : keyType 1 ≡ Served (a .hash) (a .height) (signatureLength (valueLength (a .hash)) (a .height)) =
+      let t : keyType 1 ≡ served (a .hash) (a .height) =
       ap keyType (sym (made-type sha2 sha2-n material l)) ∙ a .key-type in
       let s = served-as 1 (a .hash) (a .height) _ t in
       let ten : 10 ≡ a .height = s .height in

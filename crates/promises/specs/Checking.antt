@@ -6,20 +6,19 @@ use Prim.Native.Nat.{ℕ, _+_, _*_, _^_, _<_, _≤_}
 use lib.ListN.{length}
 use Rattle.lists.specs.Bytes.{number}
 use Rattle.rfc8391.specs.Suite.{Suite}
-use Rattle.rfc8391.specs.Xmss.{messageDigest, rootFromSig}
-use Rattle.rfc8391.specs.Formats.{valueLength, keyFrom, signatureFrom, singleTree, Accepts}
+use Rattle.rfc8391.specs.Xmss.{recomputedRoot}
+use Rattle.rfc8391.specs.Formats.{valueLength, keyFrom, signatureFrom, typeOf, hashOf, heightOf, singleTree, Accepts}
 use Rattle.rfc8391.specs.declared.Hash.{Hash}
 use Rattle.rfc8391.specs.declared.KeyType.the-variants.{Unknown}
-use Rattle.operations.specs.Check.{typeOf, hashOf, heightOf}
 
 -- over a suite for each hash, of which the key's type takes its own
 module _ (suites : Hash → Suite) (key m sig : List ℕ) where
   -- the key's type: its hash, the bytes of a value, and the height of the tree
-  abbrev g : Hash
-  g = hashOf (typeOf key)
+  abbrev hash : Hash
+  hash = hashOf (typeOf key)
 
   abbrev n : ℕ
-  n = valueLength g
+  n = valueLength hash
 
   abbrev h : ℕ
   h = heightOf (typeOf key)
@@ -40,13 +39,9 @@ module _ (suites : Hash → Suite) (key m sig : List ℕ) where
   abbrev pub IndexFits : Type 0
   IndexFits = number sig 0 4 < 2 ^ h
 
-  -- Algorithm 13: the root recomputed from the signature is the key's, byte by byte
+  -- Algorithm 14: the root recomputed from the signature is the key's, byte by byte
   abbrev pub RootAgrees : Type 0
-  RootAgrees =
-      rootFromSig (suites g) (keyFrom n key .seed) singleTree h (signatureFrom n h sig .idx) (signatureFrom n h sig .values)
-      (signatureFrom n h sig .auth)
-      (messageDigest (suites g) (signatureFrom n h sig .r) (keyFrom n key .root) (signatureFrom n h sig .idx) m)
-      ≡ keyFrom n key .root
+  RootAgrees = recomputedRoot (suites hash) singleTree h (keyFrom n key) m (signatureFrom n h sig) ≡ keyFrom n key .root
 
   -- each number exactly when its condition holds and none earlier does
   pub record CheckNumbers (outcome : ℕ) : Type 0 where

@@ -11,9 +11,8 @@ use Rattle.lists.proofs.Numbers.{length-toByte}
 use Rattle.rfc8391.specs.Suite.{Suite, Value, Values}
 use Rattle.rfc8391.specs.Wots.{len, wotsSign}
 use Rattle.rfc8391.specs.Xmss.{Signature, PublicKey, otsAt, authPath, publicKeyOf, signatureWith, signatureOf}
-use Rattle.rfc8391.specs.Formats.{keyLength, keyBytes, keyFrom, pathStart, signatureLength, signatureBytes, signatureFrom, valueLength, keyType, singleTree, Accepts}
+use Rattle.rfc8391.specs.Formats.{keyLength, keyBytes, keyFrom, pathStart, signatureLength, signatureBytes, signatureFrom, valueLength, served, keyType, singleTree, Accepts}
 use Rattle.rfc8391.specs.declared.Hash.{Hash}
-use Rattle.rfc8391.specs.declared.KeyType.the-variants.{Served}
 use Rattle.rfc8391.proofs.Chains.{sign-values}
 use Rattle.rfc8391.proofs.Honest.{root-value, path-values, honest-verifies}
 use Rattle.rfc8391.proofs.Formats.{KeyFits, SignatureFits, key-read, signature-read}
@@ -61,7 +60,7 @@ module _ (S : Suite) (seed skPrf : List ℕ) (sk : ℕ → ℕ → List ℕ) (se
 -- what Algorithm 10 makes for a type, and what Algorithm 12 signs with it, is accepted
 pub honest-accepted : (suites : Hash → Suite) (hash : Hash) → suites hash .n ≡ valueLength hash
     → (seed skPrf : List ℕ) (sk : ℕ → ℕ → List ℕ) → length seed ≡ suites hash .n → ((i c : ℕ) → Value (suites hash .n) (sk i c))
-    → (t h i : ℕ) (m : List ℕ) → t < 2 ^ 32 → keyType t ≡ Served hash h (signatureLength (valueLength hash) h) → i < 2 ^ h → i < 2 ^ 32
+    → (t h i : ℕ) (m : List ℕ) → t < 2 ^ 32 → keyType t ≡ served hash h → i < 2 ^ h → i < 2 ^ 32
     → Accepts suites (keyBytes (publicKeyOf (suites hash) seed t singleTree sk h)) m
     (signatureBytes (signatureOf (suites hash) seed singleTree sk skPrf h i m))
 unfolding publicKeyOf keyFrom

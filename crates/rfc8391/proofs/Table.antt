@@ -4,12 +4,12 @@ use Rattle.lists.specs.Lists.{tab, turns}
 use Rattle.lists.specs.Bytes.{toByte}
 use Rattle.rfc8391.specs.Wots.{base_w, checksum, total, digits}
 use Rattle.rfc8391.specs.Xmss.{sibling}
-use Rattle.rfc8391.specs.Formats.{pathStart, signatureLength, keyType}
+use Rattle.rfc8391.specs.Formats.{valueLength, pathStart, signatureLength, keyType}
 use Rattle.rfc8391.specs.Table.{SchemeRows}
 use Rattle.rfc8391.proofs.Ltrees.{length-round}
 
 pub scheme-rows : SchemeRows
-unfolding tab turns toByte base_w checksum total digits pathStart signatureLength keyType sibling
+unfolding tab turns toByte base_w checksum total digits valueLength pathStart signatureLength keyType sibling
 scheme-rows =
     record {
       row-1 = record { last-three = refl; signing-steps = refl; checking-steps = refl };

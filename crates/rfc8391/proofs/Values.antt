@@ -7,8 +7,7 @@ use Rattle.lists.specs.Lists.{tab}
 use lib.Bits.{bitXor}
 use lib.ListN.{length, take, drop, length-drop}
 use lib.Seq.{take-all, getD-take, length-take-le}
-use Rattle.lists.proofs.Tabs.{length-tab, getD-tab, tab-ext}
-use Rattle.lists.proofs.Fronts.{take-tab}
+use Rattle.lists.proofs.Tabs.{length-tab, getD-tab, tab-ext, take-tab}
 use Rattle.rfc8391.specs.Suite.{Value, Values, xor}
 
 -- a list by a rule that gives values

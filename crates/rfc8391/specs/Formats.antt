@@ -50,12 +50,25 @@ signatureFrom n h b =
 unfoldable pub valueLength : Hash → ℕ
 valueLength Sha2 = 32
 
+-- a type that is served: its hash, the height of its tree, the length of its signatures
+abbrev pub served : Hash → ℕ → KeyType
+served hash h = Served hash h (signatureLength (valueLength hash) h)
+
 -- 5.3 and the registry of section 8: the types with SHA-256 and values of 32 bytes; no other number is a type here
 unfoldable pub keyType : ℕ → KeyType
-keyType t =
-    pick (eqb t 1) (Served Sha2 10 (signatureLength 32 10))
-    (pick (eqb t 2) (Served Sha2 16 (signatureLength 32 16))
-    (pick (eqb t 3) (Served Sha2 20 (signatureLength 32 20)) Unknown))
+keyType t = pick (eqb t 1) (served Sha2 10) (pick (eqb t 2) (served Sha2 16) (pick (eqb t 3) (served Sha2 20) Unknown))
+
+-- the type that a key names, its hash and its height (Sha2 and 0 where it is none)
+abbrev pub typeOf : List ℕ → KeyType
+typeOf key = keyType (number key 0 4)
+
+abbrev pub hashOf : KeyType → Hash
+hashOf (Served hash height length) = hash
+hashOf Unknown = Sha2
+
+abbrev pub heightOf : KeyType → ℕ
+heightOf (Served hash height length) = height
+heightOf Unknown = 0
 
 -- layer 0 and tree 0
 abbrev pub singleTree : Address
@@ -67,6 +80,6 @@ pub record Accepts (suites : Hash → Suite) (key m sig : List ℕ) : Type 0 whe
   pub hash : Hash
   pub height : ℕ
   pub key-length : length key ≡ keyLength (valueLength hash)
-  pub key-type : keyType (number key 0 4) ≡ Served hash height (signatureLength (valueLength hash) height)
+  pub key-type : typeOf key ≡ served hash height
   pub sig-length : length sig ≡ signatureLength (valueLength hash) height
   pub valid : verify (suites hash) singleTree height (keyFrom (valueLength hash) key) m (signatureFrom (valueLength hash) height sig)

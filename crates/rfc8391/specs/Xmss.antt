@@ -116,7 +116,10 @@ module _ (S : Suite) where
     unfoldable pub signatureOf : Address → (ℕ → ℕ → List ℕ) → List ℕ → ℕ → ℕ → List ℕ → Signature
     signatureOf a sk skPrf h i m = signatureWith a sk skPrf (rootOf a sk h) (authPath a (leafOf a sk) h i) i m
 
-  -- 4.1.10, Algorithm 14: the signature of a message is valid under a key of height h
+  -- 4.1.10, Algorithm 14: the root to which the signature of a message leads under a key of height h; it is valid where that is the key's
+  abbrev pub recomputedRoot : Address → ℕ → PublicKey → List ℕ → Signature → List ℕ
+  recomputedRoot a h pk m sig =
+      rootFromSig (pk .seed) a h (sig .idx) (sig .values) (sig .auth) (messageDigest (sig .r) (pk .root) (sig .idx) m)
+
   unfoldable pub verify : Address → ℕ → PublicKey → List ℕ → Signature → Type 0
-  verify a h pk m sig =
-      rootFromSig (pk .seed) a h (sig .idx) (sig .values) (sig .auth) (messageDigest (sig .r) (pk .root) (sig .idx) m) ≡ pk .root
+  verify a h pk m sig = recomputedRoot a h pk m sig ≡ pk .root

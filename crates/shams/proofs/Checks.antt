@@ -12,10 +12,9 @@ use Rattle.outcomes.proofs.Outcomes.{outcome-none}
 use Rattle.rfc8391.specs.Suite.{Suite, xor}
 use Rattle.rfc8391.specs.Wots.{base_w, checksum, digits, step, chain, wotsPkFromSig}
 use Rattle.rfc8391.specs.Xmss.{messageDigest, randHash, ltreeNode, ltreeRound, ltree, climb, rootFromPath, rootFromSig, verify}
-use Rattle.rfc8391.specs.Formats.{valueLength, keyLength, keyFrom, valuesStart, pathStart, signatureLength, signatureFrom, keyType}
+use Rattle.rfc8391.specs.Formats.{valueLength, keyLength, keyFrom, valuesStart, pathStart, signatureLength, signatureFrom, keyType, heightOf}
 use Rattle.rfc8391.specs.declared.Hash.{Hash}
 use Rattle.rfc8391.specs.declared.Hash.the-variants.{Sha2}
-use Rattle.operations.specs.Check.{heightOf}
 use Rattle.promises.specs.Checking.{KeyFits, TypeUnknown, SignatureFits, MessageFits, IndexFits, RootAgrees, Accepted}
 use Rattle.promises.proofs.Checking.{numbers, accepted}
 use Rattle.shams.specs.ToyValues.{zeros, rightHalf}

@@ -13,9 +13,9 @@ use Rattle.outcomes.specs.Outcome.{outcomeOf, unless}
 use Rattle.rfc8391.specs.Suite.{Suite}
 use Rattle.rfc8391.specs.Wots.{wotsPkFromSig}
 use Rattle.rfc8391.specs.Xmss.{Signature, PublicKey, otsAt, ltreeAt, messageDigest, ltree, rootFromPath}
-use Rattle.rfc8391.specs.Formats.{valueLength, keyFrom, signatureFrom, singleTree}
+use Rattle.rfc8391.specs.Formats.{valueLength, keyFrom, signatureFrom, typeOf, hashOf, heightOf, singleTree}
 use Rattle.rfc8391.specs.declared.Hash.{Hash}
-use Rattle.operations.specs.Check.{typeOf, hashOf, heightOf, checkRefusals}
+use Rattle.operations.specs.Check.{checkRefusals}
 use Rattle.promises.specs.Checking.{CheckNumbers, Accepted}
 
 -- a way of checking gives an outcome for a key, a message and a signature
@@ -55,10 +55,10 @@ module _ (suites : Hash → Suite) where
   -- the honest way but for its last test
   unfoldable pub oneChain : Checking
   oneChain key m sig =
-      let g = hashOf (typeOf key) in
+      let hash = hashOf (typeOf key) in
       let h = heightOf (typeOf key) in
-      let pk = keyFrom (valueLength g) key in
-      let root = rootByOneChain (suites g) h pk m (signatureFrom (valueLength g) h sig) in
+      let pk = keyFrom (valueLength hash) key in
+      let root = rootByOneChain (suites hash) h pk m (signatureFrom (valueLength hash) h sig) in
       pick (eqb (honest key m sig) 0 || eqb (honest key m sig) 6)
       (outcomeOf ((isNot (root ≡ pk .root) (List-discrete ℕ-discrete _ _), 6) ∷ []))
       (honest key m sig)

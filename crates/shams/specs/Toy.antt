@@ -20,4 +20,4 @@ toy =
 
 -- in the place of every hash's suite
 unfoldable pub toys : Hash → Suite
-toys g = toy
+toys hash = toy

@@ -6,14 +6,14 @@ use native.Mathlib.Omega.{arith}
 use lib.ListN.{length, take, drop, length-take, length-drop}
 use Rattle.lists.specs.Lists.{parts}
 use Rattle.lists.specs.Bytes.{number}
-use Rattle.lists.proofs.Fronts.{parts-of-part}
+use Rattle.lists.proofs.Flats.{parts-of-part}
 use Rattle.rfc8391.specs.Suite.{Suite}
 use Rattle.rfc8391.specs.Wots.{len}
 use Rattle.rfc8391.specs.Xmss.{messageDigest, rootFromSig}
 use Rattle.rfc8391.specs.Formats.{keyLength, keyFrom, valuesStart, pathStart, signatureLength, signatureFrom, singleTree}
 use Rattle.rfc8391.specs.declared.Address.{Address}
 use Rattle.rfc8391.proofs.Values.{value-at}
-use Rattle.signatures.specs.Recomputed.{recomputed}
+use Rattle.signatures.specs.Recomputed.{rootBy}
 
 -- how long a key and a signature of values of n bytes are, and where its path begins
 pub record Sizes (n p k s h : ℕ) : Type 0 where
@@ -58,7 +58,7 @@ module _ (S : Suite) (key m sig : List ℕ) (h : ℕ) where
       → digest ≡ messageDigest S r root i m
       → x ≡ rootFromSig S seed a h i (parts (S .n) (len S) 0 (take (p - (4 + w)) (drop (4 + w) sig)))
       (parts (S .n) h 0 (take (length sig - p) (drop p sig))) digest
-      → x ≡ recomputed S h key m sig
+      → x ≡ rootBy S (S .n) h key m sig
   unfolding keyFrom signatureFrom
   recomputes w p i a seed root r digest x ew ep el es eo er ei ea ed ex =
       rw (ex, values-in w p ew ep, path-in w p ew ep el, ed, es, eo, er, ei, ea)

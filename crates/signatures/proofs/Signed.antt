@@ -30,11 +30,6 @@ use Rattle.records.specs.Keys.{signedBy}
 use Rattle.records.proofs.Pasted.{pasted}
 use Rattle.signatures.specs.Parts.{chainValues, pathNodes}
 
--- signing's values have 32 bytes
-pub width-32 : (s : Seed) → suiteOf s ≡ sha2 → suiteOf s .n ≡ 32
-unfolding sha2
-width-32 s e = ap (λ (S : Suite). S .n) e
-
 -- the digits of m, by the number of a value's bytes
 pub digits-at : (S : Suite) (m d : List ℕ) → S .n ≡ 32 → take 67 d ≡ digits 64 m → take (len S) d ≡ digits (len₁ S) m
 digits-at S m d n32 e = ap (λ (n : ℕ). take (2 * n + 3) d) n32 ∙ e ∙ ap (λ (n : ℕ). digits (2 * n) m) (sym n32)
@@ -81,7 +76,7 @@ values-written S seed a m d sk o₀ o c n32 ed ec inv =
     (ap (λ (n : ℕ). tab (2 * n + 3) (λ k. chain S seed (setChainAddress a k) (sk k) 0 (getD d k 0))) (sym n32)
     ∙ values-of S seed a m d sk (digits-at S m d n32 ed))
 
--- chain values of the secrets that are held for leaf i
+-- chain values of the secrets that are ready for leaf i
 pub values-are : (out y sk : List ℕ) (s : Seed) (m : List ℕ) (i : ℕ) (a b : Address) (x : Secrets) → a ≡ singleTree → b ≡ otsAt a i
     → x .secret ≡ sk → x .public ≡ s .bytes → x .at ≡ b → suiteOf (x .leaf) ≡ suiteOf s
     → y ≡ take 36 out ++ (flat (wotsSign (suiteOf s) (seedOf s) (x .at) m (valueOf x)) ++ drop 2180 out)

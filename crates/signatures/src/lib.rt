@@ -1,5 +1,5 @@
 // Signatures in bytes: one is written with what a secret record holds, and one is read to the root to which it leads.
-// Uses records, trees and what lies below them. Where the parts of a signature lie is known here alone.
+// Uses records, trees and what lies below them. Where chain values and path lie in a signature is known here alone.
 // The operations add the refusals and use it.
 ghost use mathlib.Core.Path.{_≡_};
 ghost use mathlib.Core.List.{_++_};
@@ -10,7 +10,6 @@ ghost use Rattle.lists.specs.Bytes.{toByte};
 ghost use Rattle.rfc8391.specs.Wots.{wotsSign};
 ghost use Rattle.rfc8391.specs.Formats.{valueLength, keyLength, pathStart, signatureLength, signatureBytes};
 ghost use Rattle.keyed.specs.Sha2.{sha2};
-ghost use Rattle.keyed.specs.Suites.{suite};
 ghost use Rattle.keyed.specs.Seeds.{suiteOf, held, seedOf, Prepared};
 ghost use Rattle.onetime.specs.Secrets.{Ready, valueOf};
 ghost use Rattle.records.specs.Records.{recordFrom};
@@ -33,8 +32,14 @@ fn write_head(out: &mut [u8], index: u32, r: [u8; 32])
 
 // Every chain value of the value m in its own 32 bytes, by a walk that gets this part of the out buffer alone.
 fn write_values(out: &mut [u8], x: Secrets, s: Seed, m: [u8; 32])
-    requires { ⌜ Prepared s × Ready x × (suiteOf (x .leaf) ≡ suiteOf s) × (suiteOf s .n ≡ 32) × (2180 ≤ length (now out)) ⌝ }
-    ensures { λ _. ⌜ now (out .exit) ≡ take 36 (now (out .entry)) ++ (flat (wotsSign (suiteOf s) (seedOf s) (x .at) (held s m) (valueOf x)) ++ drop 2180 (now (out .entry))) ⌝ }
+    requires { ⌜
+        Prepared s × Ready x × (suiteOf (x .leaf) ≡ suiteOf s) × (suiteOf s .n ≡ 32) × (2180 ≤ length (now out))
+        ⌝ }
+    ensures { λ _. ⌜
+        now (out .exit)
+        ≡ take 36 (now (out .entry))
+        ++ (flat (wotsSign (suiteOf s) (seedOf s) (x .at) (held s m) (valueOf x)) ++ drop 2180 (now (out .entry)))
+        ⌝ }
 {
     let d = onetime::digits_of(m, 64);
     let a = x.at;
@@ -78,7 +83,10 @@ fn randomiser(prfkey: &[u8], index: u32) -> [u8; 32]
 
 fn write_parts(out: &mut [u8], secret: [u8; 32], s: Seed, index: u32, r: [u8; 32], m: [u8; 32])
     requires { ⌜ Prepared s × (suiteOf s .n ≡ 32) × (index < 1024) × (length (now out) ≡ 2500) ⌝ }
-    ensures { λ _. ⌜ now (out .exit) ≡ toByte index 4 ++ (r ++ (chainValues (held s secret) s index (held s m) ++ pathNodes (held s secret) s index)) ⌝ }
+    ensures { λ _. ⌜
+        now (out .exit)
+        ≡ toByte index 4 ++ (r ++ (chainValues (held s secret) s index (held s m) ++ pathNodes (held s secret) s index))
+        ⌝ }
 {
     write_head(out, index, r);
     let at = Address::single_tree().ots_at(index);
@@ -89,7 +97,9 @@ fn write_parts(out: &mut [u8], secret: [u8; 32], s: Seed, index: u32, r: [u8; 32
 // The signature of a message by an index, with what a secret record holds. Keys of type 1 alone sign.
 pub fn write_signature(secret: &[u8], index: u32, message: &[u8], out: &mut [u8])
     requires { ⌜ (length (now secret) ≡ 132) × (index < 1024) × (length (now out) ≡ 2500) ⌝ }
-    ensures { λ _. ⌜ now (out .exit) ≡ signatureBytes (signedBy sha2 (recordFrom 32 (now (secret .entry))) index (now (message .entry))) ⌝ }
+    ensures { λ _. ⌜
+        now (out .exit) ≡ signatureBytes (signedBy sha2 (recordFrom 32 (now (secret .entry))) index (now (message .entry)))
+        ⌝ }
 {
     let s = keyed::prepare(Hash::Sha2, rfc8391::value_of(&secret[68..100]));
     let r = randomiser(&secret[36..68], index);
@@ -114,13 +124,18 @@ pub fn recomputed_root(
     message: &[u8],
     signature: &[u8],
 ) -> [u8; 32]
-    requires { ⌜ (height ≤ 20) × (length (now key) ≡ keyLength (valueLength hash)) × (length (now signature) ≡ signatureLength (valueLength hash) height) ⌝ }
-    ensures { λ r. ⌜ take (valueLength hash) r ≡ recomputed (suite hash) height (now (key .entry)) (now (message .entry)) (now (signature .entry)) ⌝ }
+    requires { ⌜
+        (height ≤ 20) × (length (now key) ≡ keyLength (valueLength hash))
+        × (length (now signature) ≡ signatureLength (valueLength hash) height)
+        ⌝ }
+    ensures { λ r. ⌜
+        take (valueLength hash) r
+        ≡ recomputed hash height (now (key .entry)) (now (message .entry)) (now (signature .entry))
+        ⌝ }
 {
     let n = keyed::value_length(hash);
-    let values = 4 + n;
     let path = path_start(n);
-    let seed = keyed::prepare(hash, rfc8391::value_of(&key[values..values + n]));
+    let seed = keyed::prepare(hash, rfc8391::value_of(&key[4 + n..4 + n + n]));
     let root = rfc8391::value_of(&key[4..4 + n]);
     let r = rfc8391::value_of(&signature[4..4 + n]);
     let index = lists::big_endian(signature, 0);
@@ -130,7 +145,7 @@ pub fn recomputed_root(
         Address::single_tree(),
         height,
         index,
-        &signature[values..path],
+        &signature[4 + n..path],
         &signature[path..],
         digest,
     )

@@ -3,7 +3,6 @@ use mathlib.Core.Path.{_≡_, sym, ap, ap₂, _∙_}
 use mathlib.Core.List.{List, [], _++_}
 use Prim.Native.Nat.{ℕ, _+_, _-_, _*_, _<_, _≤_}
 use native.Mathlib.Nat.{zero-add}
-use native.Mathlib.Omega.{arith}
 use lib.ListN.{length, getD, take, drop}
 use Rattle.lists.specs.Lists.{parts}
 use Rattle.lists.proofs.Tabs.{getD-tab}
@@ -14,7 +13,7 @@ use Rattle.rfc8391.specs.Xmss.{otsAt, ltreeAt, randHash, ltree, leafOf}
 use Rattle.rfc8391.specs.House.{secrets}
 use Rattle.rfc8391.specs.declared.Address.{Address}
 use Rattle.rfc8391.proofs.Chains.{pk-ext}
-use Rattle.rfc8391.proofs.Values.{xor-front}
+use Rattle.rfc8391.proofs.Values.{xor-front, value-at}
 use Rattle.keyed.specs.Seeds.{suiteOf, held, seedOf}
 use Rattle.keyed.specs.declared.Seed.{Seed}
 use Rattle.onetime.specs.Secrets.{valueOf}
@@ -30,7 +29,7 @@ unfolding randHash
 join-by S seed a l r key m₁ m₂ x y out h ek e₁ e₂ ex ey eo =
     rw (eo, ex, ey, xor-front (S .n) 32 l m₁ h, xor-front (S .n) 32 r m₂ h, ek, e₁, e₂)
 
--- the secret values that are held for leaf i are the key's
+-- the secret values that are ready for leaf i are the key's
 pub value-is : (S : Suite) (sk seed : List ℕ) (a : Address) (i : ℕ) (x : Secrets) → x .secret ≡ sk → x .public ≡ seed → x .at ≡ otsAt a i
     → suiteOf (x .leaf) ≡ S → (c : ℕ) → valueOf x c ≡ secrets S (take (S .n) sk) (take (S .n) seed) a i c
 unfolding valueOf secrets
@@ -46,13 +45,12 @@ leaf-by sk s a i x b ends r es ep ea eS ee eb er =
     (ee ∙ ap (λ (c : Address). wotsPk (suiteOf s) (seedOf s) c (valueOf x)) ea
     ∙ pk-ext (suiteOf s) (seedOf s) (otsAt a i) _ _ (value-is (suiteOf s) sk (s .bytes) a i x es ep ea eS))
 
--- a node of a path, read at its place
-pub node-read : (n w h : ℕ) (path part r : List ℕ) (k : ℕ) → w ≡ n → k < h → length part ≡ n → part ≡ take (w * k + w - w * k) (drop (w * k) path)
-    → take (length part) r ≡ part → take n r ≡ getD (parts n h 0 path) k []
+-- a node of a path, read at its place; w is how the code has n
+pub node-read : (n w h : ℕ) (path r : List ℕ) (k : ℕ) → w ≡ n → k < h → w * k + w ≤ length path
+    → take (length (take (w * k + w - w * k) (drop (w * k) path))) r ≡ take (w * k + w - w * k) (drop (w * k) path)
+    → take n r ≡ getD (parts n h 0 path) k []
 unfolding parts
-node-read n w h path part r k ew q lp ep er =
-    let z : w * k + w - w * k ≡ w = omega arith in
-    let e : take n r ≡ part = rw (← lp) er in
-    let f : part ≡ take n (drop (n * k) path) = rw (z, ew) at ep in
-    let g : take n (drop (n * k) path) ≡ take n (drop (0 + n * k) path) = rw zero-add in
-    e ∙ f ∙ g ∙ sym (getD-tab h _ [] k q)
+node-read n w h path r k ew q l er =
+    value-at n w (w * k) path r ew l er
+    ∙ ap (λ (j : ℕ). take n (drop j path)) (ap (λ (v : ℕ). v * k) ew ∙ sym (zero-add (n * k)))
+    ∙ sym (getD-tab h _ [] k q)

@@ -1,13 +1,13 @@
 // The trees of RFC 8391: L-tree, leaf, node, path, and the root from a signature.
 // Uses onetime and what lies below it.
-// The records and checking use it.
+// The records and the signatures use it.
 ghost use mathlib.Core.Path.{_≡_};
 ghost use Prim.Native.Nat.{_+_, _*_, _/_, _%_, _^_, _<_, _≤_};
-ghost use lib.ListN.{length, take};
-ghost use Rattle.lists.specs.Lists.{flat, parts, fronts};
+ghost use lib.ListN.{length};
+ghost use Rattle.lists.specs.Lists.{flat};
 ghost use Rattle.rfc8391.specs.Wots.{len};
 ghost use Rattle.rfc8391.specs.Xmss.{treeAt, sibling, randHash, ltreeRound, ltree, node, authPath, climb, rootFromPath, rootFromSig};
-ghost use Rattle.keyed.specs.Seeds.{suiteOf, held, heldAll, seedOf, Prepared};
+ghost use Rattle.keyed.specs.Seeds.{suiteOf, held, heldFirst, heldAll, valuesIn, seedOf, Prepared};
 ghost use Rattle.tree.specs.Keys.{leafAt};
 use keyed::Seed;
 use rfc8391::Address;
@@ -31,7 +31,7 @@ fn join(s: Seed, a: Address, left: [u8; 32], right: [u8; 32]) -> [u8; 32]
 // One round over the first w values, in place: a pair's join is stored where no later pair reads.
 fn ltree_round(s: Seed, a: Address, height: u32, mut v: [[u8; 32]; 67], w: usize) -> [[u8; 32]; 67]
     requires { ⌜ Prepared s × (w ≤ 67) ⌝ }
-    ensures { λ r. ⌜ take ((w + 1) / 2) (fronts (suiteOf s .n) r) ≡ ltreeRound (suiteOf s) (seedOf s) a height (take w (fronts (suiteOf s .n) v)) ⌝ }
+    ensures { λ r. ⌜ heldFirst s ((w + 1) / 2) r ≡ ltreeRound (suiteOf s) (seedOf s) a height (heldFirst s w v) ⌝ }
 {
     let half = w / 2;
     let mut i = 0;
@@ -126,7 +126,9 @@ fn beside(position: u32) -> u32
 // The path of a leaf into a lent part: at each height the sibling of the leaf's ancestor, from the leaf up.
 pub fn write_path(out: &mut [u8], secret: [u8; 32], s: Seed, a: Address, height: u32, index: u32)
     requires { ⌜ Prepared s × (height ≤ 20) × (index < 2 ^ height) × (length (now out) ≡ suiteOf s .n * height) ⌝ }
-    ensures { λ _. ⌜ now (out .exit) ≡ flat (authPath (suiteOf s) (seedOf s) a (leafAt (held s secret) s a) height index) ⌝ }
+    ensures { λ _. ⌜
+        now (out .exit) ≡ flat (authPath (suiteOf s) (seedOf s) a (leafAt (held s secret) s a) height index)
+        ⌝ }
 {
     let n = keyed::value_length_of(s);
     let mut position = index;
@@ -162,7 +164,9 @@ fn root_from_path(
     path: &[u8],
 ) -> [u8; 32]
     requires { ⌜ Prepared s × (height ≤ 20) × (length (now path) ≡ suiteOf s .n * height) ⌝ }
-    ensures { λ r. ⌜ held s r ≡ rootFromPath (suiteOf s) (seedOf s) a height index (held s start) (parts (suiteOf s .n) height 0 (now (path .entry))) ⌝ }
+    ensures { λ r. ⌜
+        held s r ≡ rootFromPath (suiteOf s) (seedOf s) a height index (held s start) (valuesIn s height (now (path .entry)))
+        ⌝ }
 {
     let n = keyed::value_length_of(s);
     let mut v = start;
@@ -178,8 +182,8 @@ fn root_from_path(
     v
 }
 
-// The root from a signature of the value m: its chain values lead to a leaf, and its path to the root. Where these parts lie in a
-// signature is the caller's to know.
+// The root from a signature of the value m: its chain values lead to a leaf, and its path to the root. Where the two parts lie is the
+// caller's to know: a signature may have several layers.
 pub fn root_from_signature(
     s: Seed,
     a: Address,
@@ -189,8 +193,15 @@ pub fn root_from_signature(
     path: &[u8],
     m: [u8; 32],
 ) -> [u8; 32]
-    requires { ⌜ Prepared s × (height ≤ 20) × (length (now values) ≡ suiteOf s .n * len (suiteOf s)) × (length (now path) ≡ suiteOf s .n * height) ⌝ }
-    ensures { λ r. ⌜ held s r ≡ rootFromSig (suiteOf s) (seedOf s) a height index (parts (suiteOf s .n) (len (suiteOf s)) 0 (now (values .entry))) (parts (suiteOf s .n) height 0 (now (path .entry))) (held s m) ⌝ }
+    requires { ⌜
+        Prepared s × (height ≤ 20)
+        × (length (now values) ≡ suiteOf s .n * len (suiteOf s)) × (length (now path) ≡ suiteOf s .n * height)
+        ⌝ }
+    ensures { λ r. ⌜
+        held s r
+        ≡ rootFromSig (suiteOf s) (seedOf s) a height index
+        (valuesIn s (len (suiteOf s)) (now (values .entry))) (valuesIn s height (now (path .entry))) (held s m)
+        ⌝ }
 {
     let ends = onetime::ends_from(values, s, a.ots_at(index), m);
     let start = ltree_root(s, a.ltree_at(index), ends);

@@ -2,7 +2,6 @@
 use native.Mathlib.Omega.{arith}
 use Rattle.rfc8391.specs.Formats.{valueLength}
 use Rattle.keyed.proofs.Suites.{only-sha2}
-use borrow.Author.Needs.{needs}
 use Rattle.keyed.proofs.value_length.Statement.{statement}
 use Rattle.keyed.proofs.value_length.Tie as tie
 

@@ -9,8 +9,7 @@ use Rattle.rfc8391.proofs.Digits.{length-base_w}
 use Rattle.rfc8391.specs.Wots.{base_w, digits}
 use Rattle.lists.specs.Bytes.{toByte}
 use Rattle.lists.proofs.Tabs.{tab-getD}
-use Rattle.lists.proofs.Filling.{filling-start, filling-more}
-use Rattle.lists.proofs.Fronts.{filling-front}
+use Rattle.lists.proofs.Filling.{filling-start, filling-more, filling-front}
 use Rattle.lists.specs.Loops.{Filling}
 use Rattle.onetime.proofs.digits_of.Statement.{statement}
 use Rattle.onetime.proofs.digits_of.Tie as tie

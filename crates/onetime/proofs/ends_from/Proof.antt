@@ -5,12 +5,13 @@ use lib.ListN.{length, take, replicate, length-take, length-drop}
 use Prim.Native.Nat.{_+_, _-_, _*_, _≤_}
 use mathlib.Core.Path.{_≡_, refl, _∙_}
 use borrow.Author.Needs.{needs}
-use Rattle.onetime.proofs.Ends.{endFrom, end-by, ends-from, small, value-within}
+use Rattle.onetime.proofs.Ends.{endFrom, end-by, ends-from, digit-most}
+use Rattle.lists.proofs.Flats.{value-within}
 use Rattle.keyed.specs.Seeds.{suiteOf, seedOf}
 use Rattle.rfc8391.specs.Wots.{digits, len, len₁}
-use Rattle.lists.proofs.Filling.{filling-start}
-use Rattle.lists.proofs.Fronts.{length-fronts, fronts-more, filling-front}
-use Rattle.lists.specs.Lists.{fronts}
+use Rattle.lists.proofs.Filling.{filling-start, filling-front}
+use Rattle.lists.proofs.Fronts.{length-fronts, fronts-more}
+use Rattle.lists.specs.Fronts.{fronts}
 use Rattle.lists.specs.Loops.{Filling}
 use Rattle.onetime.proofs.ends_from.Statement.{statement}
 use Rattle.onetime.proofs.ends_from.Tie as tie
@@ -26,7 +27,8 @@ loop-holds c = (filling-start 67 _ (fronts _ (replicate 67 (replicate 32 0))) (l
 
 -- value c of the values
 within : (c : tie.In-loop Inv-loop μ-loop)
-    → c .before .before .before .value-length-of .result * c .before .loop .c + c .before .before .before .value-length-of .result ≤ length (c .before .before .before .before .before .args .values .now)
+    → c .before .before .before .value-length-of .result * c .before .loop .c + c .before .before .before .value-length-of .result
+    ≤ length (c .before .before .before .before .before .args .values .now)
 within c =
     let a = c .before .before .before .before .before in
     let S = suiteOf (a .args .s) in
@@ -62,7 +64,7 @@ walk-on-requires c κs =
       simp (length-take, length-drop) (omega (arith, within i, i .before .before .before .value-length-of .ensures .0)),
       omega (
         arith,
-        small (suiteOf (s .args .s)) (seedOf (s .args .s)) _ _ (digits-known (i .before .before)) (i .before .loop .c)
+        digit-most (suiteOf (s .args .s)) _ _ (digits-known (i .before .before)) (i .before .loop .c)
             (omega arith),
         c .wide .ensures .0,
       ),

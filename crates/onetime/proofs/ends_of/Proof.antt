@@ -10,9 +10,9 @@ use Rattle.keyed.specs.Seeds.{suiteOf, held, seedOf}
 use Rattle.rfc8391.specs.Suite.{Suite}
 use Rattle.rfc8391.specs.Address.{setChainAddress}
 use Rattle.rfc8391.specs.Wots.{len, chain, wotsPk}
-use Rattle.lists.proofs.Filling.{filling-start}
-use Rattle.lists.proofs.Fronts.{length-fronts, fronts-more, filling-front}
-use Rattle.lists.specs.Lists.{fronts}
+use Rattle.lists.proofs.Filling.{filling-start, filling-front}
+use Rattle.lists.proofs.Fronts.{length-fronts, fronts-more}
+use Rattle.lists.specs.Fronts.{fronts}
 use Rattle.lists.specs.Loops.{Filling}
 use Rattle.onetime.proofs.ends_of.Statement.{statement}
 use Rattle.onetime.proofs.ends_of.Tie as tie

@@ -1,18 +1,17 @@
 -- Each answer, by the tests that lead to it.
 use mathlib.Core.Path.{_≡_, sym, ap, _∙_}
-use Prim.Native.Nat.{ℕ, _^_, _<_}
+use mathlib.Core.Logic.{_↔_}
+use Prim.Native.Nat.{_^_, _<_}
 use native.Mathlib.Omega.{arith}
 use lib.ListN.{length, take}
 use borrow.Author.Tests.{not-true, not-false}
 use Rattle.lists.specs.Bytes.{number}
-use Rattle.rfc8391.specs.Formats.{keyType, keyFrom}
+use Rattle.rfc8391.specs.Formats.{valueLength, keyType, typeOf, keyFrom}
 use Rattle.rfc8391.specs.declared.KeyType.the-variants.{Served}
 use Rattle.rfc8391.proofs.Values.{value-at}
-use Rattle.keyed.specs.Suites.{suite}
-use Rattle.keyed.proofs.Suites.{suite-length}
-use Rattle.operations.proofs.Checks.{key-wrong, type-unknown, signature-wrong, message-long, index-wrong, root-wrong, root-right, roots-agree, roots-differ}
+use Rattle.signatures.specs.Recomputed.{recomputed}
+use Rattle.operations.proofs.Checks.{key-wrong, type-unknown, signature-wrong, message-long, index-wrong, root-wrong, root-right, roots-agree}
 use Rattle.operations.proofs.Types.{served-as, key-size, longer}
-use Rattle.operations.specs.Check.{typeOf}
 use borrow.Author.Needs.{needs}
 use Rattle.operations.proofs.check.Statement.{statement}
 use Rattle.operations.proofs.check.Tie as tie
@@ -30,7 +29,8 @@ served c =
 
 -- the index, once it is known to be a leaf's
 leaf : (c : tie.Else4)
-    → number (c .before .before .before .before .before .before .before .before .before .before .before .before .before .before .args .signature .now) 0 4 < 2 ^ c .before .before .before .before .before .before .kind .given .0 .1 .0
+    → number (c .before .before .before .before .before .before .before .before .before .before .before .before .before .before .args .signature .now) 0 4
+    < 2 ^ c .before .before .before .before .before .before .kind .given .0 .1 .0
 leaf c = rw (← c .before .before .leaves .ensures, ← c .before .big-endian2 .ensures) (c .if4 .left)
 
 returns : tie.Need-returns
@@ -71,41 +71,45 @@ recomputed-root-requires c κs =
     let s = served-as _ _ _ _ (served (e .before)) in
     (s .few, size (e .before) ∙ sym (key-size _), e .if2 .left ∙ sym (s .length))
 
-returns-6 : tie.Need-returns-6
+-- the two roots that are compared
+abbrev Compared : tie.After-value-of → Type 0
+Compared c =
+    let r = c .before .before in
+    let t = r .before .before .before .before .before .before .before in
+    let g = t .before .kind .given .0 .0 in
+    let a = t .before .before .before .before .before .before .before .before .before .args in
+    let n = r .before .value-length .result in
+    (take n (r .recomputed-root .result) ≡ take n (c .value-of .result))
+    ↔ (recomputed g (t .before .kind .given .0 .1 .0) (a .key .now) (a .message .now) (a .signature .now) ≡ keyFrom (valueLength g) (a .key .now) .root)
+
+compared : (c : tie.After-value-of) → Compared c
 unfolding keyFrom
+compared c =
+    let r = c .before .before in
+    let t = r .before .before .before .before .before .before .before in
+    let g = t .before .kind .given .0 .0 in
+    let key = t .before .before .before .before .before .before .before .before .before .args .key .now in
+    let w : r .before .value-length .result ≡ valueLength g = r .before .value-length .ensures .0 in
+    roots-agree (valueLength g) _ _ _ _ _ w (r .recomputed-root .ensures)
+    (value-at (valueLength g) _ 4 key _ w (omega (arith, size t)) (c .value-of .ensures))
+
+returns-6 : tie.Need-returns-6
 returns-6 c =
     let v = c .before .before in
-    let r = v .before .before in
-    let i = r .before .before in
+    let i = v .before .before .before .before in
     let e = i .before .before .before in
     let t = e .before .before in
-    let g = t .before .kind .given .0 .0 in
-    let key = t .before .before .before .before .before .before .before .before .before .args .key .now in
-    let w : r .before .value-length .result ≡ suite g .n = r .before .value-length .ensures .0 ∙ sym (suite-length g) in
-    let x : take (suite g .n) (r .recomputed-root .result) ≡ _ =
-    ap (λ (n : ℕ). take n (r .recomputed-root .result)) (suite-length g) ∙ r .recomputed-root .ensures in
-    let y : take (suite g .n) (v .value-of .result) ≡ keyFrom (suite g .n) key .root =
-    value-at (suite g .n) _ 4 key _ w (omega (arith, size t)) (v .value-of .ensures) in
     root-wrong _ _ _ _ _ _ (size t) (served t) (e .before .if2 .left) (e .if3 .left) (leaf i)
-    (roots-differ (suite g .n) _ _ _ _ _ w x y (c .before .same .ensures .1 (not-true _ (c .if5 .taken))))
+    (λ q. c .before .same .ensures .1 (not-true _ (c .if5 .taken)) (compared v .1 q))
 
 returns-7 : tie.Need-returns-7
-unfolding keyFrom
 returns-7 c =
     let v = c .before .before in
-    let r = v .before .before in
-    let i = r .before .before in
+    let i = v .before .before .before .before in
     let e = i .before .before .before in
     let t = e .before .before in
-    let g = t .before .kind .given .0 .0 in
-    let key = t .before .before .before .before .before .before .before .before .before .args .key .now in
-    let w : r .before .value-length .result ≡ suite g .n = r .before .value-length .ensures .0 ∙ sym (suite-length g) in
-    let x : take (suite g .n) (r .recomputed-root .result) ≡ _ =
-    ap (λ (n : ℕ). take n (r .recomputed-root .result)) (suite-length g) ∙ r .recomputed-root .ensures in
-    let y : take (suite g .n) (v .value-of .result) ≡ keyFrom (suite g .n) key .root =
-    value-at (suite g .n) _ 4 key _ w (omega (arith, size t)) (v .value-of .ensures) in
     root-right _ _ _ _ _ _ (size t) (served t) (e .before .if2 .left) (e .if3 .left) (leaf i)
-    (roots-agree (suite g .n) _ _ _ _ _ w x y (c .before .same .ensures .0 (not-false _ (c .if5 .left))))
+    (compared v .0 (c .before .same .ensures .0 (not-false _ (c .if5 .left))))
 
 pub check-spec : {M : Type 1} → statement M
 check-spec =

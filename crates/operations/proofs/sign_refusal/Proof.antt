@@ -54,19 +54,15 @@ returns-8 : tie.Need-returns-8
 returns-8 c =
     let t = tallied (c .before .before .before) in
     let z = c .before .if5 .left in
-    let e : used (c .before .before .before .before .before .before .before .before .before .before .before .before .before .before .before .args .page .now) ≡ c .before .before .before .before .before .before .before .before .before .before .before .before .before .before .before .args .session = omega (arith, t .1, c .if6 .left) in
+    let a = c .before .before .before .before .before .before .before .before .before .before .before .before .before .before .before .args in
+    let e : used (a .page .now) ≡ a .session = omega (arith, t .1, c .if6 .left) in
     stored _ _ _ _ _ (c .before .before .before .before .before .before .before .before .before .before .if1 .left)
     (typed (c .before .before .before .before .before .before .before .before))
     (c .before .before .before .before .before .before .before .if3 .left) (c .before .before .before .before .before .before .if4 .left)
     (t .0) (
       (
         omega arith,
-        omega (
-          arith,
-          e,
-          used-most
-              (c .before .before .before .before .before .before .before .before .before .before .before .before .before .before .before .args .page .now),
-        ),
+        omega (arith, e, used-most (a .page .now)),
       ),
       e,
     )

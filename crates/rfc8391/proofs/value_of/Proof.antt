@@ -5,8 +5,7 @@ use Prim.Native.Nat.{_-_, _≤_}
 use mathlib.Core.Path.{refl, _∙_}
 use borrow.Author.Needs.{needs}
 use Rattle.lists.proofs.Tabs.{tab-getD}
-use Rattle.lists.proofs.Filling.{filling-start, filling-more}
-use Rattle.lists.proofs.Fronts.{filling-front}
+use Rattle.lists.proofs.Filling.{filling-start, filling-more, filling-front}
 use Rattle.lists.specs.Loops.{Filling}
 use Rattle.rfc8391.proofs.value_of.Statement.{statement}
 use Rattle.rfc8391.proofs.value_of.Tie as tie

@@ -3,8 +3,9 @@ use mathlib.Core.Path.{refl, ap, _∙_}
 use native.Mathlib.Omega.{arith}
 use lib.ListN.{take}
 use Rattle.rfc8391.proofs.Values.{value-at}
-use Rattle.keyed.proofs.Suites.{suite-sha2}
-use Rattle.signatures.proofs.Signed.{width-32, signed-is}
+use Rattle.keyed.proofs.Suites.{suite-sha2, sha2-n}
+use Rattle.rfc8391.specs.Suite.{Suite}
+use Rattle.signatures.proofs.Signed.{signed-is}
 use borrow.Author.Needs.{needs}
 use Rattle.signatures.proofs.write_signature.Statement.{statement}
 use Rattle.signatures.proofs.write_signature.Tie as tie
@@ -13,7 +14,7 @@ write-parts-requires : tie.Need-write-parts-requires
 write-parts-requires c κs =
     let p = c .before .before .before .before .before .before .before .before .prepare .ensures in
     let s = c .before .before .before .before .before .before .before .before .before .before .before .before .before .before in
-    (p .0, width-32 _ (p .2 ∙ suite-sha2), s .pre .1, s .pre .2)
+    (p .0, ap (λ (S : Suite). S .n) (p .2 ∙ suite-sha2) ∙ sha2-n, s .pre .1, s .pre .2)
 
 returns : tie.Need-returns
 returns c =

@@ -11,7 +11,7 @@ use Rattle.rfc8391.specs.Address.{setChainAddress}
 use Rattle.rfc8391.specs.Wots.{chain}
 use Rattle.keyed.specs.Seeds.{suiteOf, held, seedOf}
 use Rattle.onetime.specs.Secrets.{valueOf}
-use Rattle.onetime.proofs.Ends.{chain-by, small}
+use Rattle.onetime.proofs.Ends.{chain-by, digit-most}
 use Rattle.signatures.proofs.Signed.{digits-at, values-written}
 use Rattle.signatures.proofs.write_values.Statement.{statement}
 use Rattle.signatures.proofs.write_values.Tie as tie
@@ -34,7 +34,7 @@ walk-into-requires c κs =
     let n : S .n ≡ 32 = b .pre .3 in
     let d = l .before .before .digits-of in
     let k : getD (d .result) (l .loop .c) 0 ≤ 15 =
-    small S (seedOf (b .args .s)) (b .args .m) (d .result) (digits-at S (b .args .m) (d .result) n (d .ensures)) (l .loop .c)
+    digit-most S (b .args .m) (d .result) (digits-at S (b .args .m) (d .result) n (d .ensures)) (l .loop .c)
     (omega (arith, n, i .loop-test .taken)) in
     (b .pre .0, simp (length-take, length-drop) (omega (arith, n, i .loop-test .taken, l .loop .inv .0 .2, b .pre .4)), omega (arith, k, c .wide .ensures .0))
 
@@ -48,7 +48,7 @@ loop-again c =
     let v : held (b .args .s) (k .result) ≡ valueOf (b .args .x) (l .loop .c) = ap (λ (S : Suite). take (S .n) (k .result)) (sym (b .pre .2)) ∙ k .ensures in (
       written-more 36 32 _ (b .args .out .now) (l .loop .out) _ _ _ refl (omega (arith, i .loop-test .taken, b .pre .4))
           (chain-by _ _ _ _ _ _ _ _ _ (c .before .before .before .before .before .set-chain-address .ensures) v
-          (c .before .before .before .wide .ensures .0) (w .ensures .1))
+          (c .before .before .before .wide .ensures .0) (w .ensures .1 ∙ w .ensures .0))
           (w .kept .0 ∙ walk-into-requires (c .before .before .before) (w .lifetimes) .1 ∙ b .pre .3)
           (l .loop .inv .0),
       omega (arith, i .loop-test .taken),

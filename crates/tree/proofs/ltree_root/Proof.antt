@@ -12,7 +12,8 @@ use Rattle.tree.proofs.Rounds.{ltree-by}
 use Rattle.keyed.specs.Seeds.{suiteOf, heldAll, seedOf}
 use Rattle.rfc8391.specs.Xmss.{ltreeRound}
 use Rattle.lists.proofs.Turns.{turns-more}
-use Rattle.lists.specs.Lists.{turns, fronts}
+use Rattle.lists.specs.Lists.{turns}
+use Rattle.lists.specs.Fronts.{fronts}
 use Rattle.tree.proofs.ltree_root.Statement.{statement}
 use Rattle.tree.proofs.ltree_root.Tie as tie
 

@@ -11,7 +11,7 @@ use Rattle.rfc8391.specs.Xmss.{randHash, ltreeNode}
 use Rattle.rfc8391.specs.Address.{setTreeHeight, setTreeIndex}
 use Rattle.lists.proofs.Replacing.{replacing-start}
 use Rattle.lists.proofs.Fronts.{length-fronts, getD-fronts, fronts-moved, fronts-replaced}
-use Rattle.lists.specs.Lists.{fronts}
+use Rattle.lists.specs.Fronts.{fronts}
 use mathlib.Core.List.{[]}
 use Rattle.lists.specs.Loops.{Replacing}
 use Rattle.tree.proofs.ltree_round.Statement.{statement}

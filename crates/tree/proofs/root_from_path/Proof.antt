@@ -3,12 +3,12 @@ use native.Mathlib.Nat.{div-one, le-refl}
 use native.Mathlib.Numerals.{add-one}
 use native.Mathlib.Omega.{arith}
 use mathlib.Core.List.{List, []}
-use lib.ListN.{length, getD, take, drop, length-take, length-drop}
+use lib.ListN.{length, getD, length-take, length-drop}
 use Prim.Native.Nat.{ℕ, _+_, _≤_, _-_, _*_, _/_, _^_}
-use mathlib.Core.Path.{_≡_, refl, sym, _∙_, ap, ap₂}
+use mathlib.Core.Path.{_≡_, sym, _∙_, ap, ap₂}
 use borrow.Author.Needs.{needs}
 use Rattle.tree.proofs.Joins.{node-read}
-use Rattle.onetime.proofs.Ends.{value-within}
+use Rattle.lists.proofs.Flats.{value-within}
 use Rattle.keyed.specs.Seeds.{suiteOf, held, seedOf}
 use Rattle.rfc8391.proofs.Trees.{half-position}
 use Rattle.rfc8391.specs.Xmss.{climb, rootFromPath}
@@ -30,7 +30,8 @@ loop-holds c = (turns-start _ _, omega arith, sym (div-one _))
 
 -- node k of the path
 within : (c : tie.In-loop Inv-loop μ-loop)
-    → c .before .before .value-length-of .result * c .before .loop .k + c .before .before .value-length-of .result ≤ length (c .before .before .before .before .args .path .now)
+    → c .before .before .value-length-of .result * c .before .loop .k + c .before .before .value-length-of .result
+    ≤ length (c .before .before .before .before .args .path .now)
 within c =
     let b = c .before .before .before .before in
     let S = suiteOf (b .args .s) in
@@ -65,10 +66,8 @@ loop-again c =
     let a = b .args in
     let S = suiteOf (a .s) in
     let path = parts (S .n) (a .height) 0 (a .path .now) in
-    let part = take (w .result * l .k + w .result - w .result * l .k) (drop (w .result * l .k) (a .path .now)) in
-    let lp : length part ≡ S .n = simp (length-take, length-drop) (omega (arith, within i, w .ensures .0)) in
     let x : held (a .s) (c .before .value-of .result) ≡ getD path (l .k) [] =
-    node-read (S .n) (w .result) (a .height) (a .path .now) part _ (l .k) (w .ensures .0) (omega arith) lp refl (c .before .value-of .ensures) in
+    node-read (S .n) (w .result) (a .height) (a .path .now) _ (l .k) (w .ensures .0) (omega arith) (within i) (c .before .value-of .ensures) in
     let r : held (a .s) (c .climb-by .result) ≡ climb S (seedOf (a .s)) (a .a) (l .k) (a .index / 2 ^ l .k) (held (a .s) (l .v)) (getD path (l .k) []) =
     c .climb-by .ensures ∙ ap₂ (λ (p : ℕ) (y : List ℕ). climb S (seedOf (a .s)) (a .a) (l .k) p (held (a .s) (l .v)) y) (l .inv .2) x in (
       turns-more _ _ _ (l .inv .0) r,

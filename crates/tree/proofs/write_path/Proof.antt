@@ -9,7 +9,7 @@ use mathlib.Core.Path.{_≡_, sym, _∙_, ap}
 use borrow.Author.Needs.{needs}
 use Rattle.tree.proofs.Bounds.{sibling-within, position-below}
 use Rattle.tree.specs.Keys.{leafAt}
-use Rattle.onetime.proofs.Ends.{value-within}
+use Rattle.lists.proofs.Flats.{value-within}
 use Rattle.keyed.specs.Seeds.{suiteOf, held, seedOf}
 use Rattle.rfc8391.proofs.Trees.{half-position}
 use Rattle.rfc8391.specs.Xmss.{sibling, node, authPath}
@@ -31,7 +31,8 @@ loop-holds c = (written-start 0 (c .value-length-of .result) _ _, omega arith, s
 
 -- node k's part of the path
 within : (c : tie.In-loop Inv-loop μ-loop)
-    → c .before .before .value-length-of .result * c .before .loop .k + c .before .before .value-length-of .result ≤ length (c .before .before .before .before .args .out .now)
+    → c .before .before .value-length-of .result * c .before .loop .k + c .before .before .value-length-of .result
+    ≤ length (c .before .before .before .before .args .out .now)
 within c =
     let b = c .before .before .before .before in
     let S = suiteOf (b .args .s) in
