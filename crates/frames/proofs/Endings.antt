@@ -13,7 +13,7 @@ use Rattle.lines.specs.Steps.{stepped}
 use Rattle.lines.specs.Reading.{read, held}
 use Rattle.lines.specs.declared.Line.{Line}
 use Rattle.lines.proofs.Buffers.{copied}
-use Rattle.operations.specs.Check.{checkOf}
+use Rattle.operations.specs.Check.{check_of}
 use Rattle.operations.specs.declared.Checked.{Checked}
 use Rattle.frames.specs.Frames.{Latest, latest, prints, framed, answer}
 
@@ -25,7 +25,7 @@ body frame l = take (l.len - 1) (drop 1 frame)
 pub record Whole (frame : List ℕ) (l : Line) : Type 0 where
   pub some_bytes : l.len ≡ 0 → ⊥
   pub good : l.bad ≡ false
-  pub no-half : ltb l.high 16 ≡ false
+  pub no_half : ltb l.high 16 ≡ false
   pub fits : l.len ≤ length frame
 
 -- what a copy of them leaves in a buffer with room for a frame
@@ -51,31 +51,31 @@ module _ (frame : List ℕ) (l : Line) (s : Latest) (n : ℕ) where
       go false = refl
 
   -- a line that can't be read
-  pub not-read : (l.bad || ltb l.high 16) ≡ true → prints s n 12 ≡ answer s n (held (read frame l))
+  pub not_read : (l.bad || ltb l.high 16) ≡ true → prints s n 12 ≡ answer s n (held (read frame l))
   unfolding answer held
-  not-read e = rw e
+  not_read e = rw e
 
   -- any other is a frame
   is_framed : Whole frame l → answer s n (held (read frame l)) ≡ framed s n (get_or frame 0 0) (body frame l)
   unfolding answer held
   is_framed w =
       let h = w.some_bytes in
-      rw (w.good, w.no-half, first_rest frame l.len (l.len - 1) (omega arith) w.fits)
+      rw (w.good, w.no_half, first_rest frame l.len (l.len - 1) (omega arith) w.fits)
 
   pub a_key : (key : List ℕ) → Whole frame l → get_or frame 0 0 ≡ 1 → key ≡ body frame l
       → stepped (latest key s.message) [] ≡ answer s n (held (read frame l))
   unfolding framed
   a_key key w e k = rw (is_framed w, e, k)
 
-  pub a-message : (message : List ℕ) → Whole frame l → get_or frame 0 0 ≡ 2 → message ≡ body frame l
+  pub a_message : (message : List ℕ) → Whole frame l → get_or frame 0 0 ≡ 2 → message ≡ body frame l
       → stepped (latest s.key message) [] ≡ answer s n (held (read frame l))
   unfolding framed
-  a-message message w e k = rw (is_framed w, e, k)
+  a_message message w e k = rw (is_framed w, e, k)
 
-  pub a-signature : (r : Checked) → Whole frame l → get_or frame 0 0 ≡ 3 → r ≡ checkOf s.key s.message (body frame l)
+  pub a_signature : (r : Checked) → Whole frame l → get_or frame 0 0 ≡ 3 → r ≡ check_of s.key s.message (body frame l)
       → prints s n r.outcome ≡ answer s n (held (read frame l))
   unfolding framed
-  a-signature r w e k = rw (is_framed w, e, k)
+  a_signature r w e k = rw (is_framed w, e, k)
 
   pub another : Whole frame l → (get_or frame 0 0 ≡ 1 → ⊥) → (get_or frame 0 0 ≡ 2 → ⊥) → (get_or frame 0 0 ≡ 3 → ⊥)
       → prints s n 12 ≡ answer s n (held (read frame l))

@@ -4,9 +4,9 @@
 ghost use Rattle.std.specs.Prelude.{◌≡◌, List, [], ℕ, ◌+◌, ◌*◌, ◌≤◌, ◌<◌, ◌^◌, length, take};
 ghost use Rattle.lists.specs.Lists.{flat};
 ghost use Rattle.lines.specs.Steps.{after, run_of};
-ghost use Rattle.lines.specs.Reading.{read, held, closed, charStep, endInput, written};
-ghost use Rattle.frames.specs.Frames.{latest, answer, outputOf};
-ghost use Rattle.frames.specs.Buffers.{latestIn, sess, startState, ended_as, reached, Holds, Ready};
+ghost use Rattle.lines.specs.Reading.{read, held, closed, char_step, end_input, written};
+ghost use Rattle.frames.specs.Frames.{latest, answer, output_of};
+ghost use Rattle.frames.specs.Buffers.{latest_in, sess, start_state, ended_as, reached, Holds, Ready};
 
 use lines::Line;
 
@@ -47,7 +47,7 @@ pub struct Moved {
 }
 
 pub fn start() -> State
-    ensures { result ≡ startState }
+    ensures { result ≡ start_state }
 {
     State {
         kept: Kept { key: 0, message: 0 },
@@ -61,7 +61,7 @@ pub fn start() -> State
 fn end_line(frame: &[u8], key: &mut [u8], message: &mut [u8], s: State) -> Ended
     requires { Ready frame.now key.old message.old s }
     ensures holds { Holds key.new message.new result.kept }
-    ensures by_index { (n : ℕ) → ended_as key.new message.new result n ≡ answer (latestIn key.old message.old s.kept) n (held (read frame.now s.line)) }
+    ensures by_index { (n : ℕ) → ended_as key.new message.new result n ≡ answer (latest_in key.old message.old s.kept) n (held (read frame.now s.line)) }
 {
     let l = s.line;
     let len = l.len;
@@ -143,7 +143,7 @@ fn advance(
     requires ready { Ready frame.old key.old message.old s }
     requires at_in_bounds { (at + 42 ≤ length out.old) × (s.number + 1 < 2 ^ 64) }
     ensures ready_2 { Ready frame.new key.new message.new result.state }
-    ensures result_after { reached frame.new key.new message.new out.new result ≡ after (take at out.old) (charStep (length frame.old) answer (sess frame.old key.old message.old s) c) }
+    ensures result_after { reached frame.new key.new message.new out.new result ≡ after (take at out.old) (char_step (length frame.old) answer (sess frame.old key.old message.old s) c) }
     ensures n_bound { (result.n ≤ at + 42) × (result.state.number ≤ s.number + 1) }
 {
     if c == 10 {
@@ -170,7 +170,7 @@ pub fn take_chunk(
     requires chunk_in_bounds { (42 * length chunk.now ≤ length out.old) × (s.number + length chunk.now < 2 ^ 64) }
     requires frame_len { length frame.old ≡ 16384 }
     ensures ready_2 { Ready frame.new key.new message.new result.state }
-    ensures result_after { reached frame.new key.new message.new out.new result ≡ run_of (charStep (length frame.old) answer) (sess frame.old key.old message.old s) chunk.now }
+    ensures result_after { reached frame.new key.new message.new out.new result ≡ run_of (char_step (length frame.old) answer) (sess frame.old key.old message.old s) chunk.now }
     ensures n_in_bounds { (result.n ≤ length out.old) × (result.state.number ≤ s.number + length chunk.now) }
 {
     let mut i = 0;
@@ -196,7 +196,7 @@ pub fn end_input(
     requires ready { Ready frame.now key.old message.old s }
     requires in_bounds { (42 ≤ length out.old) × (s.number + 1 < 2 ^ 64) }
     requires frame_len { length frame.now ≡ 16384 }
-    ensures result_after { reached frame.now key.new message.new out.new result ≡ endInput answer (sess frame.now key.old message.old s) }
+    ensures result_after { reached frame.now key.new message.new out.new result ≡ end_input answer (sess frame.now key.old message.old s) }
     ensures n_in_bounds { result.n ≤ length out.old }
 {
     if s.begun {
@@ -207,5 +207,5 @@ pub fn end_input(
 
 // In whatever chunks an input comes, what `take_chunk` writes for them and `end_input` at the end is what its lines print.
 pub fn any_chunks()
-    ensures { (chunks : List (List ℕ)) → written 16384 answer (latest [] []) chunks ≡ outputOf (flat chunks) }
+    ensures { (chunks : List (List ℕ)) → written 16384 answer (latest [] []) chunks ≡ output_of (flat chunks) }
 {}

@@ -10,26 +10,26 @@ use Rattle.keyed.specs.Suites.{suite}
 use Rattle.keyed.specs.declared.Seed.{Seed}
 
 -- the suite that a seed belongs to
-unfoldable pub suiteOf : Seed → Suite
-suiteOf s = suite s.hash
+unfoldable pub suite_of : Seed → Suite
+suite_of s = suite s.hash
 
 -- a value of that suite is held in 32 bytes, of which the first n count; k values in the first of many such places, and those of all chains
 abbrev pub held : Seed → List ℕ → List ℕ
-held s x = take (suiteOf s).n x
+held s x = take (suite_of s).n x
 
-abbrev pub heldFirst : Seed → ℕ → List (List ℕ) → List (List ℕ)
-heldFirst s k v = take k (fronts (suiteOf s).n v)
+abbrev pub held_first : Seed → ℕ → List (List ℕ) → List (List ℕ)
+held_first s k v = take k (fronts (suite_of s).n v)
 
-abbrev pub heldAll : Seed → List (List ℕ) → List (List ℕ)
-heldAll s v = heldFirst s (len (suiteOf s)) v
+abbrev pub held_all : Seed → List (List ℕ) → List (List ℕ)
+held_all s v = held_first s (len (suite_of s)) v
 
 -- k values that stand one behind the other
-abbrev pub valuesIn : Seed → ℕ → List ℕ → List (List ℕ)
-valuesIn s k b = parts (suiteOf s).n k 0 b
+abbrev pub values_in : Seed → ℕ → List ℕ → List (List ℕ)
+values_in s k b = parts (suite_of s).n k 0 b
 
 -- the seed's own bytes
-abbrev pub seedOf : Seed → List ℕ
-seedOf s = held s s.bytes
+abbrev pub seed_of : Seed → List ℕ
+seed_of s = held s s.bytes
 
 -- the hash value is that of the seed
 unfoldable pub Prepared : Seed → Type 0

@@ -6,7 +6,7 @@ use native.Mathlib.Numerals.{add-one}
 use native.Mathlib.Omega.{arith}
 use lib.ListN.{length, take, drop, set, length-append}
 use lib.Seq.{length-take-le, take_all, take-append_seam, take-append-add, take-append-le, take-suc-set}
-use Rattle.lines.specs.Decimal.{decimal, numbersLine}
+use Rattle.lines.specs.Decimal.{decimal, numbers_line}
 
 -- what a copy leaves at the front
 pub copied : (n : ℕ) (p old new : List ℕ) → n ≡ length p → new ≡ take (length p) p ++ drop (length p) old → take n new ≡ p
@@ -25,15 +25,15 @@ pub inside : (out ys rest : List ℕ) (at k : ℕ) → at ≤ length out → k <
 inside out ys rest at k h l = omega (arith, length-append (take at out) (ys ++ rest), length-append ys rest, length-take-le at out h)
 
 -- and a byte is put there
-pub with-last : (out ys rest p : List ℕ) (at k b : ℕ) → at ≤ length out → take k ys ≡ p → k < length ys
+pub with_last : (out ys rest p : List ℕ) (at k b : ℕ) → at ≤ length out → take k ys ≡ p → k < length ys
     → take (at + k + 1) (set (take at out ++ (ys ++ rest)) (at + k) b) ≡ take at out ++ (p ++ (b ∷ []))
-with-last out ys rest p at k b h e l =
+with_last out ys rest p at k b h e l =
     let all : List ℕ = take at out ++ (ys ++ rest) in
     let stands : take (at + k) all ≡ take at out ++ p = at_place out ys rest p at k h e (omega arith) in
     rw (add-one, take-suc-set all (at + k) b (inside out ys rest at k h l), stands, append_assoc)
 
 -- two numbers, each with its last byte
 pub two : (o o₁ o₂ : List ℕ) (n m : ℕ) → o₁ ≡ o ++ (decimal n ++ (32 ∷ [])) → o₂ ≡ o₁ ++ (decimal m ++ (10 ∷ []))
-    → o₂ ≡ o ++ numbersLine (n ∷ m ∷ [])
-unfolding numbersLine
+    → o₂ ≡ o ++ numbers_line (n ∷ m ∷ [])
+unfolding numbers_line
 two o o₁ o₂ n m e f = rw (f, e) (simp append_assoc)

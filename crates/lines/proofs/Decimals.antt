@@ -12,8 +12,8 @@ use Rattle.lists.specs.Lists.{pick}
 use Rattle.lines.specs.Decimal.{places, decimal}
 
 -- a number below 10 ^ f has at most f digits
-fewest-le : (n k f : ℕ) → IsDigitCount 10 1 n k → n < 10 ^ f → 1 ≤ f → k ≤ f
-fewest-le n k f w h l = go (dec_le k f)
+fewest_le : (n k f : ℕ) → IsDigitCount 10 1 n k → n < 10 ^ f → 1 ≤ f → k ≤ f
+fewest_le n k f w h l = go (dec_le k f)
   where
     go : Dec (k ≤ f) → k ≤ f
     go (yes p) = p
@@ -23,8 +23,8 @@ fewest-le n k f w h l = go (dec_le k f)
         let q : 10 ^ f ≤ n = le_trans (pow-le-pow_right {n = 10} (lit< tt) a) (w.2 b) in
         absurd (omega arith)
 
-fewest-same : (n k m : ℕ) → IsDigitCount 10 1 n k → IsDigitCount 10 1 n m → k ≡ m
-fewest-same n k m a b = le_antisymm (fewest-le n k m a b.1 b.0) (fewest-le n m k b a.1 a.0)
+fewest_same : (n k m : ℕ) → IsDigitCount 10 1 n k → IsDigitCount 10 1 n m → k ≡ m
+fewest_same n k m a b = le_antisymm (fewest_le n k m a b.1 b.0) (fewest_le n m k b a.1 a.0)
 
 -- one digit more
 more : (n p : ℕ) → 10 ≤ n → IsDigitCount 10 1 (n / 10) p → IsDigitCount 10 1 n (suc p)
@@ -45,24 +45,24 @@ more n p h w =
         let z : p - 1 ≡ 0 = omega arith in
         rw z (omega arith)
 
-places-fewest : (f n : ℕ) → n < 10 ^ f → IsDigitCount 10 1 n (places f n)
+places_fewest : (f n : ℕ) → n < 10 ^ f → IsDigitCount 10 1 n (places f n)
 unfolding places
-places-fewest zero n h = (omega arith, omega arith, λ p. absurd (omega arith))
-places-fewest (suc f) n h =
+places_fewest zero n h = (omega arith, omega arith, λ p. absurd (omega arith))
+places_fewest (suc f) n h =
     let up : 10 ^ suc f ≡ 10 * 10 ^ f = pow-succ' 10 f in
     let l : n / 10 < 10 ^ f = omega arith in
-    go (ltb n 10) refl (places-fewest f (n / 10) l)
+    go (ltb n 10) refl (places_fewest f (n / 10) l)
   where
     go : (t : Bool) → ltb n 10 ≡ t → IsDigitCount 10 1 (n / 10) (places f (n / 10)) → IsDigitCount 10 1 n (pick t 1 (suc (places f (n / 10))))
     go true e w = (omega arith, ltb-true n 10 e, λ p. absurd (omega arith))
     go false e w = more n (places f (n / 10)) (ltb-false n 10 e) w
 
 -- what `io::decimal` writes
-pub decimal-is : (n k : ℕ) → n < 2 ^ 64 → IsDigitCount 10 1 n k → last_digits 10 k n ≡ decimal n
+pub decimal_is : (n k : ℕ) → n < 2 ^ 64 → IsDigitCount 10 1 n k → last_digits 10 k n ≡ decimal n
 unfolding decimal
-decimal-is n k h w =
+decimal_is n k h w =
     let l : n < 10 ^ 20 = omega arith in
-    ap (λ (x : ℕ). last_digits 10 x n) (fewest-same n k (places 20 n) w (places-fewest 20 n l))
+    ap (λ (x : ℕ). last_digits 10 x n) (fewest_same n k (places 20 n) w (places_fewest 20 n l))
 
-pub decimal-le : (n k : ℕ) → n < 2 ^ 64 → IsDigitCount 10 1 n k → k ≤ 20
-decimal-le n k h w = let l : n < 10 ^ 20 = omega arith in fewest-le n k 20 w l (lit≤ tt)
+pub decimal_le : (n k : ℕ) → n < 2 ^ 64 → IsDigitCount 10 1 n k → k ≤ 20
+decimal_le n k h w = let l : n < 10 ^ 20 = omega arith in fewest_le n k 20 w l (lit≤ tt)

@@ -13,7 +13,7 @@ unfoldable pub decimal : ℕ → List ℕ
 decimal n = last_digits 10 (places 20 n) n
 
 -- numbers with a space between, then a line feed
-unfoldable pub numbersLine : List ℕ → List ℕ
-numbersLine [] = 10 ∷ []
-numbersLine (n ∷ []) = decimal n ++ (10 ∷ [])
-numbersLine (n ∷ m ∷ ns) = decimal n ++ (32 ∷ numbersLine (m ∷ ns))
+unfoldable pub numbers_line : List ℕ → List ℕ
+numbers_line [] = 10 ∷ []
+numbers_line (n ∷ []) = decimal n ++ (10 ∷ [])
+numbers_line (n ∷ m ∷ ns) = decimal n ++ (32 ∷ numbers_line (m ∷ ns))

@@ -14,19 +14,19 @@ lines_of [] = []
 lines_of (c ∷ cs) = pick (eqb c 10) ([] ∷ lines_of cs) (front (c ∷ []) (lines_of cs))
 
 -- the value of a lowercase hexadecimal digit, 16 for any other byte
-unfoldable pub hexDigit : ℕ → ℕ
-hexDigit c = pick (leb 48 c && leb c 57) (c - 48) (pick (leb 97 c && leb c 102) (c - 87) 16)
+unfoldable pub hex_digit : ℕ → ℕ
+hex_digit c = pick (leb 48 c && leb c 57) (c - 48) (pick (leb 97 c && leb c 102) (c - 87) 16)
 
 -- the byte of two half-bytes before the bytes that follow, none where a half is 16 or more
-unfoldable pub byteBefore : ℕ → ℕ → Option (List ℕ) → Option (List ℕ)
-byteBefore high low none = none
-byteBefore high low (some bytes) = pick (leb 16 high || leb 16 low) none (some ((16 * high + low) ∷ bytes))
+unfoldable pub byte_before : ℕ → ℕ → Option (List ℕ) → Option (List ℕ)
+byte_before high low none = none
+byte_before high low (some bytes) = pick (leb 16 high || leb 16 low) none (some ((16 * high + low) ∷ bytes))
 
 -- the bytes of a line, two digits each, high half first; none for an odd number of digits or any other character
-unfoldable pub hexBytes : List ℕ → Option (List ℕ)
-hexBytes [] = some []
-hexBytes (c ∷ []) = none
-hexBytes (c ∷ d ∷ cs) = byteBefore (hexDigit c) (hexDigit d) (hexBytes cs)
+unfoldable pub hex_bytes : List ℕ → Option (List ℕ)
+hex_bytes [] = some []
+hex_bytes (c ∷ []) = none
+hex_bytes (c ∷ d ∷ cs) = byte_before (hex_digit c) (hex_digit d) (hex_bytes cs)
 
 -- bytes that room holds, none where there are more
 unfoldable pub within : ℕ → Option (List ℕ) → Option (List ℕ)
@@ -35,4 +35,4 @@ within room (some bytes) = pick (leb (length bytes) room) (some bytes) none
 
 -- the content of a line, of at most room bytes
 unfoldable pub content : ℕ → List ℕ → Option (List ℕ)
-content room l = within room (hexBytes l)
+content room l = within room (hex_bytes l)

@@ -3,7 +3,7 @@
 use Rattle.std.specs.Prelude.{Bool, true, false, ◌||◌, List, [], ◌∷◌, ◌++◌, ℕ, ◌+◌, ◌*◌, length, take, eqb, leb, ltb}
 use Rattle.std.proofs.Math.Option.{Option, none, some}
 use Rattle.lists.specs.Lists.{pick}
-use Rattle.lines.specs.Lines.{hexDigit, content}
+use Rattle.lines.specs.Lines.{hex_digit, content}
 use Rattle.lines.specs.Steps.{Stepped, stepped, after, chunked}
 use Rattle.lines.specs.declared.Line.{Line}
 
@@ -21,8 +21,8 @@ abbrev pub fresh : Sofar
 fresh = sofar [] 16 false
 
 -- its numbers, whatever the buffer holds
-abbrev pub freshLine : Line
-freshLine = record { len = 0; high = 16; bad = false }
+abbrev pub fresh_line : Line
+fresh_line = record { len = 0; high = 16; bad = false }
 
 -- what a buffer and a line's numbers stand for
 abbrev pub read : List ℕ → Line → Sofar
@@ -31,11 +31,11 @@ read frame l = sofar (take l.len frame) l.high l.bad
 -- one character more
 unfoldable pub put_of : ℕ → Sofar → ℕ → Sofar
 put_of room l c =
-    pick (l.bad || (leb 16 (hexDigit c) || leb room (length l.bytes)))
+    pick (l.bad || (leb 16 (hex_digit c) || leb room (length l.bytes)))
     (sofar l.bytes l.high true)
     (pick (leb 16 l.high)
-    (sofar l.bytes (hexDigit c) false)
-    (sofar (l.bytes ++ ((16 * l.high + hexDigit c) ∷ [])) 16 false))
+    (sofar l.bytes (hex_digit c) false)
+    (sofar (l.bytes ++ ((16 * l.high + hex_digit c) ∷ [])) 16 false))
 
 -- what a line holds where it ends
 unfoldable pub held : Sofar → Option (List ℕ)
@@ -64,19 +64,19 @@ module _ {A : Type 0} (answer : A → ℕ → Option (List ℕ) → Stepped A) w
       (answer s.state (s.number + 1) (held s.line)).out
 
   -- the end of the input: a line that has begun ends there
-  unfoldable pub endInput : Session A → Stepped (Session A)
-  endInput s = pick s.begun (closed s) (stepped s [])
+  unfoldable pub end_input : Session A → Stepped (Session A)
+  end_input s = pick s.begun (closed s) (stepped s [])
 
 module _ {A : Type 0} (room : ℕ) (answer : A → ℕ → Option (List ℕ) → Stepped A) where
   -- the reader's view: lines are answered in turn, and what the answers say is written one after the other
-  unfoldable pub byLines : A → ℕ → List (List ℕ) → Stepped A
-  byLines a n [] = stepped a []
-  byLines a n (l ∷ ls) = after (answer a n (content room l)).out (byLines (answer a n (content room l)).to (n + 1) ls)
+  unfoldable pub by_lines : A → ℕ → List (List ℕ) → Stepped A
+  by_lines a n [] = stepped a []
+  by_lines a n (l ∷ ls) = after (answer a n (content room l)).out (by_lines (answer a n (content room l)).to (n + 1) ls)
 
   -- one character
-  unfoldable pub charStep : Session A → ℕ → Stepped (Session A)
-  charStep s c = pick (eqb c 10) (closed answer s) (stepped (session s.number true (put_of room s.line c) s.state) [])
+  unfoldable pub char_step : Session A → ℕ → Stepped (Session A)
+  char_step s c = pick (eqb c 10) (closed answer s) (stepped (session s.number true (put_of room s.line c) s.state) [])
 
   -- all that the step writes for an input that comes in chunks, and at its end
   unfoldable pub written : A → List (List ℕ) → List ℕ
-  written a chunks = (chunked charStep (start a) chunks).out ++ (endInput answer (chunked charStep (start a) chunks).to).out
+  written a chunks = (chunked char_step (start a) chunks).out ++ (end_input answer (chunked char_step (start a) chunks).to).out

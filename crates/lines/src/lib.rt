@@ -2,9 +2,9 @@
 // Uses lists, and the kit's bytes and io.
 // Programs that answer lines stand on it.
 ghost use Rattle.std.specs.Prelude.{◌≡◌, [], ◌∷◌, ◌++◌, ◌+◌, ◌≤◌, length, take};
-ghost use Rattle.lines.specs.Lines.{hexDigit};
-ghost use Rattle.lines.specs.Decimal.{decimal, numbersLine};
-ghost use Rattle.lines.specs.Reading.{freshLine, read, put_of};
+ghost use Rattle.lines.specs.Lines.{hex_digit};
+ghost use Rattle.lines.specs.Decimal.{decimal, numbers_line};
+ghost use Rattle.lines.specs.Reading.{fresh_line, read, put_of};
 
 // The line so far: len bytes in a buffer that the caller keeps, a high half that waits for its low half (16: none waits),
 // and whether it can no longer be read. So a line of any length needs no more than the buffer.
@@ -16,7 +16,7 @@ pub struct Line {
 }
 
 pub fn fresh_line() -> Line
-    ensures { result ≡ freshLine }
+    ensures { result ≡ fresh_line }
 {
     Line {
         len: 0,
@@ -27,7 +27,7 @@ pub fn fresh_line() -> Line
 
 // A capital letter is no digit: one text has one spelling.
 fn digit(c: u8) -> u8
-    ensures { result ≡ hexDigit c }
+    ensures { result ≡ hex_digit c }
 {
     if 48 <= c && c <= 57 {
         return c - 48;
@@ -85,7 +85,7 @@ pub fn write_number(out: &mut [u8], at: usize, n: u64, last: u8) -> usize
 // A line of two numbers.
 pub fn write_two(out: &mut [u8], at: usize, n: u64, m: u64) -> usize
     requires { at + 42 ≤ length out.old }
-    ensures out_after { take result out.new ≡ take at out.old ++ numbersLine (n ∷ m ∷ []) }
+    ensures out_after { take result out.new ≡ take at out.old ++ numbers_line (n ∷ m ∷ []) }
     ensures upper_bound { result ≤ at + 42 }
 {
     let next = write_number(out, at, n, 32);

@@ -10,35 +10,35 @@ use native.Mathlib.Omega.{arith}
 
 module _ {ℓ} {A : Type ℓ} (d : A) (P : A → Type 0) where
   -- of one element and of a list
-  pub cons-all : (x : A) (l : List A) → P x → ((j : ℕ) → P (get_or l j d)) → (i : ℕ) → P (get_or (x ∷ l) i d)
-  cons-all x l p h zero = p
-  cons-all x l p h (suc i) = h i
+  pub cons_all : (x : A) (l : List A) → P x → ((j : ℕ) → P (get_or l j d)) → (i : ℕ) → P (get_or (x ∷ l) i d)
+  cons_all x l p h zero = p
+  cons_all x l p h (suc i) = h i
 
   -- of two lists, one after the other
-  pub append-all : (l r : List A) → ((j : ℕ) → P (get_or l j d)) → ((j : ℕ) → P (get_or r j d)) → (i : ℕ) → P (get_or (l ++ r) i d)
-  append-all [] r hl hr i = hr i
-  append-all (x ∷ l) r hl hr zero = hl 0
-  append-all (x ∷ l) r hl hr (suc i) = append-all l r (λ j. hl (suc j)) hr i
+  pub append_all : (l r : List A) → ((j : ℕ) → P (get_or l j d)) → ((j : ℕ) → P (get_or r j d)) → (i : ℕ) → P (get_or (l ++ r) i d)
+  append_all [] r hl hr i = hr i
+  append_all (x ∷ l) r hl hr zero = hl 0
+  append_all (x ∷ l) r hl hr (suc i) = append_all l r (λ j. hl (suc j)) hr i
 
   -- of a list by its rule
-  pub tab-all : (n : ℕ) (f : ℕ → A) → P d → ((k : ℕ) → P (f k)) → (i : ℕ) → P (get_or (tab n f) i d)
+  pub tab_all : (n : ℕ) (f : ℕ → A) → P d → ((k : ℕ) → P (f k)) → (i : ℕ) → P (get_or (tab n f) i d)
   unfolding tab
-  tab-all zero f pd h i = pd
-  tab-all (suc n) f pd h i = append-all (tab n f) (f n ∷ []) (tab-all n f pd h) (cons-all (f n) [] (h n) (λ j. pd)) i
+  tab_all zero f pd h i = pd
+  tab_all (suc n) f pd h i = append_all (tab n f) (f n ∷ []) (tab_all n f pd h) (cons_all (f n) [] (h n) (λ j. pd)) i
 
   -- of a front
-  pub take-all-of : (n : ℕ) (l : List A) → P d → ((j : ℕ) → P (get_or l j d)) → (i : ℕ) → P (get_or (take n l) i d)
-  take-all-of zero l pd h i = pd
-  take-all-of (suc n) [] pd h i = pd
-  take-all-of (suc n) (x ∷ l) pd h zero = h 0
-  take-all-of (suc n) (x ∷ l) pd h (suc i) = take-all-of n l pd (λ j. h (suc j)) i
+  pub take_all_of : (n : ℕ) (l : List A) → P d → ((j : ℕ) → P (get_or l j d)) → (i : ℕ) → P (get_or (take n l) i d)
+  take_all_of zero l pd h i = pd
+  take_all_of (suc n) [] pd h i = pd
+  take_all_of (suc n) (x ∷ l) pd h zero = h 0
+  take_all_of (suc n) (x ∷ l) pd h (suc i) = take_all_of n l pd (λ j. h (suc j)) i
 
   -- of what is left behind a front
-  pub drop-all-of : (n : ℕ) (l : List A) → ((j : ℕ) → P (get_or l j d)) → (i : ℕ) → P (get_or (drop n l) i d)
-  drop-all-of n l h i = rw get_or-drop (h (n + i))
+  pub drop_all_of : (n : ℕ) (l : List A) → ((j : ℕ) → P (get_or l j d)) → (i : ℕ) → P (get_or (drop n l) i d)
+  drop_all_of n l h i = rw get_or-drop (h (n + i))
 
 -- a number's bytes are bytes
-pub toByte-bytes : (x n : ℕ) → Bytes (to_byte x n)
+pub to_byte_bytes : (x n : ℕ) → Bytes (to_byte x n)
 unfolding Bytes to_byte
-toByte-bytes x zero i = omega arith
-toByte-bytes x (suc n) i = cons-all 0 (λ b. b < 256) _ (to_byte x n) (mod-lt _ (omega arith)) (toByte-bytes x n) i
+to_byte_bytes x zero i = omega arith
+to_byte_bytes x (suc n) i = cons_all 0 (λ b. b < 256) _ (to_byte x n) (mod-lt _ (omega arith)) (to_byte_bytes x n) i

@@ -9,13 +9,13 @@ use lib.Seq.{take-suc, take-suc-set, take_all, take-set-le, drop-set-lt, drop-se
 use Rattle.lists.specs.Loops.{Joining}
 
 -- before the first turn
-pub joining-start {ℓ} : {A : Type ℓ} (w : ℕ) (a b l : List A) → length l ≡ w + w → Joining w a b l 0
-joining-start w a b l e = (refl, refl, e, omega arith)
+pub joining_start {ℓ} : {A : Type ℓ} (w : ℕ) (a b l : List A) → length l ≡ w + w → Joining w a b l 0
+joining_start w a b l e = (refl, refl, e, omega arith)
 
 -- one element of each more
-pub joining-more {ℓ} : {A : Type ℓ} (w : ℕ) (a b l : List A) (i : ℕ) (d : A) → length a ≡ w → length b ≡ w → i < w → Joining w a b l i
+pub joining_more {ℓ} : {A : Type ℓ} (w : ℕ) (a b l : List A) (i : ℕ) (d : A) → length a ≡ w → length b ≡ w → i < w → Joining w a b l i
     → Joining w a b (set (set l i (get_or a i d)) (w + i) (get_or b i d)) (i + 1)
-joining-more w a b l i d la lb h inv =
+joining_more w a b l i d la lb h inv =
     let x = get_or a i d in
     let y = get_or b i d in
     let ll : i < length l = omega (arith, inv.2) in
@@ -29,8 +29,8 @@ joining-more w a b l i d la lb h inv =
     )
 
 -- when all are laid, one list stands behind the other
-pub joining-end {ℓ} : {A : Type ℓ} (w : ℕ) (a b l : List A) (i : ℕ) → length a ≡ w → length b ≡ w → w ≤ i → Joining w a b l i → l ≡ a ++ b
-joining-end w a b l i la lb h inv =
+pub joining_end {ℓ} : {A : Type ℓ} (w : ℕ) (a b l : List A) (i : ℕ) → length a ≡ w → length b ≡ w → w ≤ i → Joining w a b l i → l ≡ a ++ b
+joining_end w a b l i la lb h inv =
     let e : i ≡ w = omega (arith, inv.3) in
     let p : take w l ≡ a = rw (← e) (inv.0 ∙ take_all i a (omega arith)) in
     let q : drop w l ≡ b =

@@ -17,21 +17,21 @@ length-tab zero f = refl
 length-tab (suc n) f = length-append (tab n f) (f n ∷ []) ∙ ap (λ (k : ℕ). k + 1) (length-tab n f) ∙ add-one n
 
 -- its element at place k is what the rule says
-pub getD-tab {ℓ} : {A : Type ℓ} (n : ℕ) (f : ℕ → A) (d : A) (k : ℕ) → k < n → get_or (tab n f) k d ≡ f k
+pub get_or-tab {ℓ} : {A : Type ℓ} (n : ℕ) (f : ℕ → A) (d : A) (k : ℕ) → k < n → get_or (tab n f) k d ≡ f k
 unfolding tab
-getD-tab zero f d k h = absurd (not-suc-le-zero h)
-getD-tab (suc n) f d k h =
+get_or-tab zero f d k h = absurd (not-suc-le-zero h)
+get_or-tab (suc n) f d k h =
     ⊎_elim
     (λ (e : k ≡ n). get_or_at (tab n f) (f n) [] d k (length-tab n f ∙ sym e) ∙ ap f (sym e))
-    (λ (l : k < n). get_or-append (tab n f) (f n ∷ []) d k (omega (arith, length-tab n f)) ∙ getD-tab n f d k l)
+    (λ (l : k < n). get_or-append (tab n f) (f n ∷ []) d k (omega (arith, length-tab n f)) ∙ get_or-tab n f d k l)
     (eq-or-lt_of_le (le_of_suc-le-suc h))
 
 -- rules that agree below n make the same list
-pub tab-ext {ℓ} : {A : Type ℓ} (n : ℕ) (f g : ℕ → A) → ((k : ℕ) → k < n → f k ≡ g k) → tab n f ≡ tab n g
+pub tab_ext {ℓ} : {A : Type ℓ} (n : ℕ) (f g : ℕ → A) → ((k : ℕ) → k < n → f k ≡ g k) → tab n f ≡ tab n g
 unfolding tab
-tab-ext zero f g h = refl
-tab-ext (suc n) f g h =
-    ap₂ (λ (t : List _) (x : _). t ++ (x ∷ [])) (tab-ext n f g (λ k q. h k (omega arith))) (h n (omega arith))
+tab_ext zero f g h = refl
+tab_ext (suc n) f g h =
+    ap₂ (λ (t : List _) (x : _). t ++ (x ∷ [])) (tab_ext n f g (λ k q. h k (omega arith))) (h n (omega arith))
 
 -- the same list from its first element on
 pub tab-cons {ℓ} : {A : Type ℓ} (n : ℕ) (f : ℕ → A) → tab (suc n) f ≡ f 0 ∷ tab n (λ k. f (suc k))
@@ -46,8 +46,8 @@ tab-take l d zero h = refl
 tab-take l d (suc i) h = ap (λ (t : List _). t ++ (get_or l i d ∷ [])) (tab-take l d i (omega arith)) ∙ sym (take-suc l i d h)
 
 -- a whole list is made by reading it
-pub tab-getD {ℓ} : {A : Type ℓ} (n : ℕ) (l : List A) (d : A) → length l ≡ n → tab n (λ k. get_or l k d) ≡ l
-tab-getD n l d e = tab-take l d n (omega arith) ∙ take_all n l (omega arith)
+pub tab-get_or {ℓ} : {A : Type ℓ} (n : ℕ) (l : List A) (d : A) → length l ≡ n → tab n (λ k. get_or l k d) ≡ l
+tab-get_or n l d e = tab-take l d n (omega arith) ∙ take_all n l (omega arith)
 
 -- the front of a list by its rule
 pub take-tab {ℓ} : {A : Type ℓ} (k n : ℕ) (f : ℕ → A) → k ≤ n → take k (tab n f) ≡ tab k f

@@ -17,11 +17,11 @@ unfolding tab flat
 written_start b w f o = (rw (mul-zero, add-zero) (sym (take-append-drop b o)), rw mul-zero, refl)
 
 -- one part more, lent from place at on and written by its rule (the width is as a lent part shows it)
-pub written-more {ℓ} : {A : Type ℓ} (b w : ℕ) (f : ℕ → List A) (o₀ o ys : List A) (c at : ℕ) → at ≡ b + w * c
+pub written_more {ℓ} : {A : Type ℓ} (b w : ℕ) (f : ℕ → List A) (o₀ o ys : List A) (c at : ℕ) → at ≡ b + w * c
     → at + w ≤ length o₀ → ys ≡ f c → length ys ≡ w → Written b w f o₀ o c
     → Written b w f o₀ (take at o ++ (ys ++ drop (at + w - at) (drop at o))) (c + 1)
 unfolding tab
-written-more {A} b w f o₀ o ys c at ea hb ey ly inv =
+written_more {A} b w f o₀ o ys c at ea hb ey ly inv =
     let ek : at + w - at ≡ w = omega arith in
     let p : List A = take b o₀ ++ flat (tab c f) in
     let lp : length p ≡ at = length-append (take b o₀) (flat (tab c f)) ∙ omega (arith, length-take-le b o₀ (omega arith), inv.1) in
@@ -36,6 +36,6 @@ written-more {A} b w f o₀ o ys c at ea hb ey ly inv =
     )
 
 -- when all n parts are written: every element of the buffer
-pub written-end {ℓ} : {A : Type ℓ} (b w n : ℕ) (f : ℕ → List A) (o₀ o : List A) (c : ℕ) → c ≡ n → Written b w f o₀ o c
+pub written_end {ℓ} : {A : Type ℓ} (b w n : ℕ) (f : ℕ → List A) (o₀ o : List A) (c : ℕ) → c ≡ n → Written b w f o₀ o c
     → o ≡ take b o₀ ++ (flat (tab n f) ++ drop (b + w * n) o₀)
-written-end b w n f o₀ o c e inv = inv.0 ∙ ap (λ (k : ℕ). take b o₀ ++ (flat (tab k f) ++ drop (b + w * k) o₀)) e
+written_end b w n f o₀ o c e inv = inv.0 ∙ ap (λ (k : ℕ). take b o₀ ++ (flat (tab k f) ++ drop (b + w * k) o₀)) e

@@ -8,49 +8,49 @@ use native.Mathlib.Omega.{arith}
 use lib.Dec.{eqb, ltb}
 use lib.Count.{count_leading_zeros}
 use borrow.Author.Tests.{eqb-true, eqb-false}
-use Rattle.marks.specs.Page.{bitUsed, cleared}
-use Rattle.marks.proofs.Tests.{all, all-at, all_of, beq-true, beq_same}
+use Rattle.marks.specs.Page.{bit_used, cleared}
+use Rattle.marks.proofs.Tests.{all, all_at, all_of, beq_true, beq_same}
 
 -- of a byte's marks the first z are used
 abbrev firsts : ℕ → ℕ → Bool
-firsts b z = all (λ k. beq (bitUsed b k) (ltb k z)) 8
+firsts b z = all (λ k. beq (bit_used b k) (ltb k z)) 8
 
 -- the marks of the byte with z used ones
-pub bits_are : (z k : ℕ) → z < 9 → k < 8 → bitUsed (255 / 2 ^ z) k ≡ ltb k z
-unfolding bitUsed
+pub bits_are : (z k : ℕ) → z < 9 → k < 8 → bit_used (255 / 2 ^ z) k ≡ ltb k z
+unfolding bit_used
 bits_are z k hz hk =
-    beq-true _ _ (all-at (λ j. beq (bitUsed (255 / 2 ^ z) j) (ltb j z)) 8 (all-at (λ y. firsts (255 / 2 ^ y) y) 9 refl z hz) k hk)
+    beq_true _ _ (all_at (λ j. beq (bit_used (255 / 2 ^ z) j) (ltb j z)) 8 (all_at (λ y. firsts (255 / 2 ^ y) y) 9 refl z hz) k hk)
 
-if-then : (a b : Bool) → (not a || b) ≡ true → a ≡ true → b ≡ true
-if-then true b e h = e
-if-then false b e h = absurd (false≢true h)
+if_then : (a b : Bool) → (not a || b) ≡ true → a ≡ true → b ≡ true
+if_then true b e h = e
+if_then false b e h = absurd (false≢true h)
 
 -- it is the only such byte
-pub byte-is : (b z : ℕ) → b < 256 → z < 9 → ((k : ℕ) → k < 8 → bitUsed b k ≡ ltb k z) → b ≡ 255 / 2 ^ z
-unfolding bitUsed
-byte-is b z hb hz h =
+pub byte_is : (b z : ℕ) → b < 256 → z < 9 → ((k : ℕ) → k < 8 → bit_used b k ≡ ltb k z) → b ≡ 255 / 2 ^ z
+unfolding bit_used
+byte_is b z hb hz h =
     let test : ℕ → ℕ → Bool = λ c y. not (firsts c y) || eqb c (255 / 2 ^ y) in
-    let t : test b z ≡ true = all-at (test b) 9 (all-at (λ c. all (test c) 9) 256 refl b hb) z hz in
-    eqb-true _ _ (if-then (firsts b z) _ t (all_of (λ k. beq (bitUsed b k) (ltb k z)) 8 (λ k l. rw (h k l) (beq_same (ltb k z)))))
+    let t : test b z ≡ true = all_at (test b) 9 (all_at (λ c. all (test c) 9) 256 refl b hb) z hz in
+    eqb-true _ _ (if_then (firsts b z) _ t (all_of (λ k. beq (bit_used b k) (ltb k z)) 8 (λ k l. rw (h k l) (beq_same (ltb k z)))))
 
 -- its leading zeros are its used marks
-pub leading-is : (z : ℕ) → z < 9 → count_leading_zeros 8 (255 / 2 ^ z) ≡ z
+pub leading_is : (z : ℕ) → z < 9 → count_leading_zeros 8 (255 / 2 ^ z) ≡ z
 unfolding count_leading_zeros
-leading-is z h = eqb-true _ _ (all-at (λ y. eqb (count_leading_zeros 8 (255 / 2 ^ y)) y) 9 refl z h)
+leading_is z h = eqb-true _ _ (all_at (λ y. eqb (count_leading_zeros 8 (255 / 2 ^ y)) y) 9 refl z h)
 
 -- with its first unused mark used, it is the next one
-pub next-byte : (k : ℕ) → k < 8 → cleared (255 / 2 ^ k) k ≡ 255 / 2 ^ (k + 1)
+pub next_byte : (k : ℕ) → k < 8 → cleared (255 / 2 ^ k) k ≡ 255 / 2 ^ (k + 1)
 unfolding cleared
-next-byte k h = eqb-true _ _ (all-at (λ j. eqb (cleared (255 / 2 ^ j) j) (255 / 2 ^ (j + 1))) 8 refl k h)
+next_byte k h = eqb-true _ _ (all_at (λ j. eqb (cleared (255 / 2 ^ j) j) (255 / 2 ^ (j + 1))) 8 refl k h)
 
 -- the bit of mark k
 pub bit_is : (k : ℕ) → k < 8 → 128 / 2 ^ k ≡ 2 ^ (7 - k)
-bit_is k h = eqb-true _ _ (all-at (λ j. eqb (128 / 2 ^ j) (2 ^ (7 - j))) 8 refl k h)
+bit_is k h = eqb-true _ _ (all_at (λ j. eqb (128 / 2 ^ j) (2 ^ (7 - j))) 8 refl k h)
 
 -- a byte whose mark k is unused has that bit
-pub has-bit : (b k : ℕ) → bitUsed b k ≡ false → 2 ^ (7 - k) ≤ b
-unfolding bitUsed
-has-bit b k e = go (dec_le (2 ^ (7 - k)) b)
+pub has_bit : (b k : ℕ) → bit_used b k ≡ false → 2 ^ (7 - k) ≤ b
+unfolding bit_used
+has_bit b k e = go (dec_le (2 ^ (7 - k)) b)
   where
     go : Dec (2 ^ (7 - k) ≤ b) → 2 ^ (7 - k) ≤ b
     go (yes h) = h

@@ -5,11 +5,11 @@ use mathlib.Core.List.{List}
 use Prim.Native.Nat.{ℕ, ◌-◌, ◌*◌, ◌/◌, ◌^◌, ◌<◌, min}
 use lib.Dec.{ltb}
 use Rattle.lists.specs.Lists.{tab}
-use Rattle.marks.specs.Page.{markUsed}
+use Rattle.marks.specs.Page.{mark_used}
 
 -- of the marks below n exactly the first u are used
 abbrev pub FirstUsed : List ℕ → ℕ → ℕ → Type 0
-FirstUsed page u n = (i : ℕ) → i < n → markUsed page i ≡ ltb i u
+FirstUsed page u n = (i : ℕ) → i < n → mark_used page i ≡ ltb i u
 
 -- byte j of the page with u used marks, and that page
 unfoldable pub byte_of : ℕ → ℕ → ℕ

@@ -6,43 +6,43 @@ use Prim.Native.Nat.{ℕ, ◌+◌, ◌/◌, ◌%◌, ◌<◌, ◌≤◌}
 use native.Mathlib.Omega.{arith}
 use lib.ListN.{get_or}
 use Rattle.lists.specs.Lists.{tab}
-use Rattle.marks.specs.Page.{bitUsed, markUsed, usedBelow, orderedBelow, used, WellFormed, cleared, withMark}
+use Rattle.marks.specs.Page.{bit_used, mark_used, used_below, ordered_below, used, WellFormed, cleared, with_mark}
 use Rattle.marks.proofs.Ordered.{byte_of, page_of}
 use Rattle.marks.specs.Table.{Next, Full, Malformed, PageRows}
-use Rattle.marks.proofs.Pages.{page-counted}
-use Rattle.marks.proofs.Answers.{reserve-malformed, reserve-full, reserve-done, mark-malformed, mark-first}
+use Rattle.marks.proofs.Pages.{page_counted}
+use Rattle.marks.proofs.Answers.{reserve_malformed, reserve_full, reserve_done, mark_malformed, mark_first}
 
 module _ (page : List ℕ) where
   counted : (u : ℕ) → u ≤ 1024 → page_of u ≡ page → WellFormed page × (used page ≡ u)
-  counted u h e = subst (λ (p : List ℕ). WellFormed p × (used p ≡ u)) e (page-counted u h)
+  counted u h e = subst (λ (p : List ℕ). WellFormed p × (used p ≡ u)) e (page_counted u h)
 
   next : (u : ℕ) → u < 1024 → page_of u ≡ page → Next page u (u + 1) (u / 8) (cleared (get_or page (u / 8) 0) (u % 8))
-  unfolding withMark
+  unfolding with_mark
   next u h e =
       let c = counted u (omega arith) e in
       record {
         count = c.1;
-        reserves = sym (reserve-done 0 1024 page 0 u (c.0, omega arith) c.1 refl h);
-        marks = sym (mark-first page u c.0 c.1 h);
+        reserves = sym (reserve_done 0 1024 page 0 u (c.0, omega arith) c.1 refl h);
+        marks = sym (mark_first page u c.0 c.1 h);
       }
 
   full : page_of 1024 ≡ page → Full page
   full e =
       let c = counted 1024 (omega arith) e in
-      sym (reserve-full 0 1024 page 0 1024 (c.0, omega arith) c.1 refl (omega arith))
+      sym (reserve_full 0 1024 page 0 1024 (c.0, omega arith) c.1 refl (omega arith))
 
-  malformed : orderedBelow page 1024 ≡ false → Malformed page
+  malformed : ordered_below page 1024 ≡ false → Malformed page
   malformed e s =
       let n : WellFormed page → ⊥ = λ w. false≢true (sym e ∙ w.1) in
-      (sym (reserve-malformed 0 1024 page s (λ v. n v.0)), sym (mark-malformed page s n))
+      (sym (reserve_malformed 0 1024 page s (λ v. n v.0)), sym (mark_malformed page s n))
 
-pub page-rows : PageRows
-unfolding bitUsed markUsed usedBelow orderedBelow cleared page_of tab byte_of
-page-rows =
+pub page_rows : PageRows
+unfolding bit_used mark_used used_below ordered_below cleared page_of tab byte_of
+page_rows =
     record {
-      row-8 = next _ 0 (omega arith) refl;
-      row-9 = next _ 19 (omega arith) refl;
-      row-10 = next _ 1023 (omega arith) refl;
-      row-11 = full _ refl;
-      row-12 = (malformed _ refl, malformed _ refl);
+      row_8 = next _ 0 (omega arith) refl;
+      row_9 = next _ 19 (omega arith) refl;
+      row_10 = next _ 1023 (omega arith) refl;
+      row_11 = full _ refl;
+      row_12 = (malformed _ refl, malformed _ refl);
     }

@@ -21,12 +21,12 @@ abbrev pub all : (ℕ → Bool) → ℕ → Bool
 all f zero = true
 all f (suc n) = f n && all f n
 
-pub all-at : (f : ℕ → Bool) (n : ℕ) → all f n ≡ true → (k : ℕ) → k < n → f k ≡ true
-all-at f zero t k h = absurd (not-suc-le-zero h)
-all-at f (suc n) t k h =
+pub all_at : (f : ℕ → Bool) (n : ℕ) → all f n ≡ true → (k : ℕ) → k < n → f k ≡ true
+all_at f zero t k h = absurd (not-suc-le-zero h)
+all_at f (suc n) t k h =
     ⊎_elim
     (λ e. subst (λ (m : ℕ). f m ≡ true) (sym e) (and_left (f n) (all f n) t))
-    (λ l. all-at f n (and_right (f n) (all f n) t) k l)
+    (λ l. all_at f n (and_right (f n) (all f n) t) k l)
     (eq-or-lt_of_le (le_of_suc-le-suc h))
 
 -- what passes at every number passes all tests
@@ -34,19 +34,19 @@ pub all_of : (f : ℕ → Bool) (n : ℕ) → ((k : ℕ) → k < n → f k ≡ t
 all_of f zero h = refl
 all_of f (suc n) h = rw (h n (omega arith), all_of f n (λ k l. h k (omega arith)))
 
-pub beq-true : (a b : Bool) → beq a b ≡ true → a ≡ b
-beq-true true true e = refl
-beq-true true false e = absurd (false≢true e)
-beq-true false true e = absurd (false≢true e)
-beq-true false false e = refl
+pub beq_true : (a b : Bool) → beq a b ≡ true → a ≡ b
+beq_true true true e = refl
+beq_true true false e = absurd (false≢true e)
+beq_true false true e = absurd (false≢true e)
+beq_true false false e = refl
 
 pub beq_same : (a : Bool) → beq a a ≡ true
 beq_same true = refl
 beq_same false = refl
 
 -- two orders that say the same have the same test
-pub ltb-same : (a b c d : ℕ) → (a < b → c < d) → (c < d → a < b) → ltb a b ≡ ltb c d
-ltb-same a b c d f g = go (ltb a b) refl (ltb c d) refl
+pub ltb_same : (a b c d : ℕ) → (a < b → c < d) → (c < d → a < b) → ltb a b ≡ ltb c d
+ltb_same a b c d f g = go (ltb a b) refl (ltb c d) refl
   where
     go : (x : Bool) → ltb a b ≡ x → (y : Bool) → ltb c d ≡ y → x ≡ y
     go true p true q = refl

@@ -4,18 +4,18 @@ use Rattle.std.proofs.Math.Bool.{Bool-discrete}
 use Rattle.std.proofs.Common.{inl, inr, ⊎_elim}
 use Rattle.std.proofs.Math.Logic.{Dec·and}
 use Rattle.std.proofs.Math.Decide.{ℕ_discrete, dec_le}
-use Rattle.marks.specs.Page.{orderedBelow, used, WellFormed, Serves, Fits}
+use Rattle.marks.specs.Page.{ordered_below, used, WellFormed, Serves, Fits}
 
 unfoldable either? : {A B : Type 0} → Dec A → Dec B → Dec (A ⊎ B)
 either? (yes a) d = yes (inl a)
 either? (no n) (yes b) = yes (inr b)
 either? (no n) (no m) = no (⊎_elim n m)
 
-pub wellFormed? : (page : List ℕ) → Dec (WellFormed page)
-wellFormed? page = Dec·and (ℕ_discrete (length page) 128) (Bool-discrete (orderedBelow page 1024) true)
+pub well_formed? : (page : List ℕ) → Dec (WellFormed page)
+well_formed? page = Dec·and (ℕ_discrete (length page) 128) (Bool-discrete (ordered_below page 1024) true)
 
 pub serves? : (first : ℕ) (page : List ℕ) → Dec (Serves first page)
-serves? first page = Dec·and (wellFormed? page) (dec_le first (used page))
+serves? first page = Dec·and (well_formed? page) (dec_le first (used page))
 
 pub fits? : (page : List ℕ) (s : ℕ) → Dec (Fits page s)
 fits? page s =

@@ -3,10 +3,10 @@ use Rattle.std.specs.Prelude.{List, [], ◌∷◌, ℕ, ◌+◌, ◌-◌, ◌/�
 use Rattle.std.proofs.Math.Decide.{ℕ_discrete}
 use Rattle.std.specs.Int.Count.{count_leading_zeros}
 use Rattle.lists.specs.Lists.{pick}
-use Rattle.outcomes.specs.Conditions.{isNot, unequal, orMore}
-use Rattle.outcomes.specs.Outcome.{Refusals, outcomeOf, unless}
-use Rattle.marks.specs.Page.{used, WellFormed, Serves, Fits, cleared, withMark}
-use Rattle.marks.specs.Decisions.{wellFormed?, serves?, fits?}
+use Rattle.outcomes.specs.Conditions.{is_not, unequal, or_more}
+use Rattle.outcomes.specs.Outcome.{Refusals, outcome_of, unless}
+use Rattle.marks.specs.Page.{used, WellFormed, Serves, Fits, cleared, with_mark}
+use Rattle.marks.specs.Decisions.{well_formed?, serves?, fits?}
 use Rattle.marks.specs.declared.Tally.{Tally}
 use Rattle.marks.specs.declared.Tally.TheVariants.{Used, Bad}
 use Rattle.marks.specs.declared.Reserved.{Reserved}
@@ -23,34 +23,34 @@ byte_count b = tally (ℕ_discrete b (255 / 2 ^ count_leading_zeros 8 b)) (count
 
 -- the used marks of a page
 unfoldable pub count_of : List ℕ → Tally
-count_of page = tally (wellFormed? page) (used page)
+count_of page = tally (well_formed? page) (used page)
 
 abbrev pub reserved : ℕ → ℕ → ℕ → ℕ → Reserved
 reserved o s p v = record { outcome = o; session = s; place = p; value = v }
 
 -- over the first index and the end of the indices, which are 0 and 1,024
 module _ (first end : ℕ) where
-  unfoldable pub reserveRefusals : List ℕ → ℕ → Refusals
-  reserveRefusals page s =
-      (isNot (Serves first page) (serves? first page), 7)
+  unfoldable pub reserve_refusals : List ℕ → ℕ → Refusals
+  reserve_refusals page s =
+      (is_not (Serves first page) (serves? first page), 7)
       ∷ (unequal s 0, 9)
-      ∷ (orMore end (used page), 8)
+      ∷ (or_more end (used page), 8)
       ∷ []
 
   -- the session for the first unused index, with the place of its byte and the byte's new value
-  unfoldable pub reserveOf : List ℕ → ℕ → Reserved
-  reserveOf page s =
-      unless (outcomeOf (reserveRefusals page s))
+  unfoldable pub reserve_of : List ℕ → ℕ → Reserved
+  reserve_of page s =
+      unless (outcome_of (reserve_refusals page s))
       (reserved 0 (used page + 1) (used page / 8) (cleared (get_or page (used page / 8) 0) (used page % 8)))
       (λ o. reserved o s 0 0)
 
 abbrev pub marked : ℕ → ℕ → Marked
 marked o s = record { outcome = o; session = s }
 
-unfoldable pub markRefusals : List ℕ → ℕ → Refusals
-markRefusals page s =
-    (isNot (WellFormed page) (wellFormed? page), 7)
-    ∷ (isNot (Fits page s) (fits? page s), 10)
+unfoldable pub mark_refusals : List ℕ → ℕ → Refusals
+mark_refusals page s =
+    (is_not (WellFormed page) (well_formed? page), 7)
+    ∷ (is_not (Fits page s) (fits? page s), 10)
     ∷ []
 
 -- what marking answers, and the page that it leaves
@@ -58,12 +58,12 @@ pub record MarkEnd : Type 0 where
   pub answer : Marked
   pub page : List ℕ
 
-abbrev pub markEnd : Marked → List ℕ → MarkEnd
-markEnd a p = record { answer = a; page = p }
+abbrev pub mark_end : Marked → List ℕ → MarkEnd
+mark_end a p = record { answer = a; page = p }
 
 -- mark s - 1 made used where it is the first unused one, and the page as it is where it is used already
 unfoldable pub mark_of : List ℕ → ℕ → MarkEnd
 mark_of page s =
-    unless (outcomeOf (markRefusals page s))
-    (markEnd (marked 0 s) (pick (eqb (used page) (s - 1)) (withMark page (s - 1)) page))
-    (λ o. markEnd (marked o s) page)
+    unless (outcome_of (mark_refusals page s))
+    (mark_end (marked 0 s) (pick (eqb (used page) (s - 1)) (with_mark page (s - 1)) page))
+    (λ o. mark_end (marked o s) page)

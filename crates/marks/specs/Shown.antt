@@ -1,7 +1,7 @@
 -- What is shown of reserving and marking: when each number is given, the bit that marking changes, the byte that reserving hands out.
 use Rattle.std.specs.Prelude.{◌≡◌, true, false, List, ◌↔◌, ℕ, ◌<◌, ◌≤◌, length, set}
-use Rattle.marks.specs.Page.{markUsed, used, WellFormed, Serves, Fits}
-use Rattle.marks.specs.Marking.{marked, markEnd, mark_of}
+use Rattle.marks.specs.Page.{mark_used, used, WellFormed, Serves, Fits}
+use Rattle.marks.specs.Marking.{marked, mark_end, mark_of}
 use Rattle.marks.specs.declared.Reserved.{Reserved}
 
 -- each number exactly when its condition holds and none earlier does; one of the conditions always holds
@@ -18,12 +18,12 @@ pub record MarkNumbers (page : List ℕ) (s outcome : ℕ) : Type 0 where
 
 -- mark i was unused before and is used after, and no other mark differs
 pub record OneMark (i : ℕ) (before after : List ℕ) : Type 0 where
-  pub unused : markUsed before i ≡ false
-  pub made-used : markUsed after i ≡ true
-  pub others : (j : ℕ) → (j ≡ i → ⊥) → markUsed after j ≡ markUsed before j
+  pub unused : mark_used before i ≡ false
+  pub made_used : mark_used after i ≡ true
+  pub others : (j : ℕ) → (j ≡ i → ⊥) → mark_used after j ≡ mark_used before j
   pub as_long : length after ≡ length before
 
 -- the byte that reserving hands out, once stored, is what marking stores; marking the stored page answers 0 and changes nothing
 pub record StoredByte (page : List ℕ) (r : Reserved) : Type 0 where
-  pub marking : mark_of page r.session ≡ markEnd (marked 0 r.session) (set page r.place r.value)
-  pub again : mark_of (set page r.place r.value) r.session ≡ markEnd (marked 0 r.session) (set page r.place r.value)
+  pub marking : mark_of page r.session ≡ mark_end (marked 0 r.session) (set page r.place r.value)
+  pub again : mark_of (set page r.place r.value) r.session ≡ mark_end (marked 0 r.session) (set page r.place r.value)

@@ -2,8 +2,8 @@
 // Uses the numbered outcomes and the laws of lists.
 // Signing counts marks by it; reserving and marking are exported as they are.
 ghost use Rattle.std.specs.Prelude.{◌≡◌, false, ◌-◌, ◌^◌, ◌<◌};
-ghost use Rattle.marks.specs.Page.{bitUsed, cleared};
-ghost use Rattle.marks.specs.Marking.{byte_count, count_of, reserved, reserveOf, markEnd, mark_of};
+ghost use Rattle.marks.specs.Page.{bit_used, cleared};
+ghost use Rattle.marks.specs.Marking.{byte_count, count_of, reserved, reserve_of, mark_end, mark_of};
 
 // How many marks are used, or that what was counted is not well formed.
 #[derive(Drop)]
@@ -75,7 +75,7 @@ fn bit_of(mark: u32) -> u8
 
 // A byte with one more mark used.
 fn cleared(b: u8, mark: u32) -> u8
-    requires { (mark < 8) × (bitUsed b mark ≡ false) }
+    requires { (mark < 8) × (bit_used b mark ≡ false) }
     ensures { result ≡ cleared b mark }
 {
     b - bit_of(mark)
@@ -94,7 +94,7 @@ fn refused(outcome: u32, session: u32) -> Reserved
 
 // Reserves the first unused index. Nothing is written: its mark counts once the caller has stored the byte.
 pub fn reserve(page: &[u8], session: u32) -> Reserved
-    ensures { result ≡ reserveOf 0 1024 page.now session }
+    ensures { result ≡ reserve_of 0 1024 page.now session }
 {
     let t = count(page);
     let Tally::Used(n) = t else {
@@ -118,7 +118,7 @@ pub fn reserve(page: &[u8], session: u32) -> Reserved
 
 // Marks the pending index used where it is the first unused one. Marking again changes nothing.
 pub fn mark(page: &mut [u8], session: u32) -> Marked
-    ensures { markEnd result page.new ≡ mark_of page.old session }
+    ensures { mark_end result page.new ≡ mark_of page.old session }
 {
     let t = count(page);
     let Tally::Used(n) = t else {

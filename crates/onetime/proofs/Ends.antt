@@ -7,30 +7,30 @@ use native.Mathlib.Omega.{arith}
 use lib.ListN.{get_or, take, drop}
 use lib.Seq.{get_or-take}
 use Rattle.lists.specs.Lists.{tab, parts}
-use Rattle.lists.proofs.Tabs.{tab-ext, getD-tab}
+use Rattle.lists.proofs.Tabs.{tab_ext, get_or-tab}
 use Rattle.rfc8391.specs.Suite.{Suite, xor}
-use Rattle.rfc8391.specs.Address.{setChainAddress, setHashAddress, setKeyAndMask}
-use Rattle.rfc8391.specs.Wots.{prfAt, digits, len, len₁, step, chain, wotsSign, wotsPkFromSig}
+use Rattle.rfc8391.specs.Address.{set_chain_address, set_hash_address, set_key_and_mask}
+use Rattle.rfc8391.specs.Wots.{prf_at, digits, len, len₁, step, chain, wots_sign, wots_pk_from_sig}
 use Rattle.rfc8391.specs.declared.Address.{Address}
-use Rattle.rfc8391.proofs.Digits.{digit-small, digits-front}
-use Rattle.rfc8391.proofs.Values.{xor-front}
+use Rattle.rfc8391.proofs.Digits.{digit_small, digits-front}
+use Rattle.rfc8391.proofs.Values.{xor_front}
 
 -- the digits by which signing and checking walk are those of the value at m's front, and none is over 15
 module _ (S : Suite) (m d : List ℕ) (e : take (len S) d ≡ digits (len₁ S) m) where
-  digit-by : (c : ℕ) → c < len S → get_or d c 0 ≡ get_or (digits (len₁ S) (take S.n m)) c 0
-  digit-by c h = sym (get_or-take (len S) d c 0 h) ∙ ap (λ (l : List ℕ). get_or l c 0) (e ∙ sym (digits-front S.n m))
+  digit_by : (c : ℕ) → c < len S → get_or d c 0 ≡ get_or (digits (len₁ S) (take S.n m)) c 0
+  digit_by c h = sym (get_or-take (len S) d c 0 h) ∙ ap (λ (l : List ℕ). get_or l c 0) (e ∙ sym (digits-front S.n m))
 
-  pub digit-most : (c : ℕ) → c < len S → get_or d c 0 ≤ 15
-  digit-most c h = rw (digit-by c h) (digit-small (len₁ S) (take S.n m) c)
+  pub digit_most : (c : ℕ) → c < len S → get_or d c 0 ≤ 15
+  digit_most c h = rw (digit_by c h) (digit_small (len₁ S) (take S.n m) c)
 
 module _ (S : Suite) (seed : List ℕ) where
   -- what chain c of the values leads to, by the digits d
-  unfoldable pub endFrom : Address → List ℕ → List ℕ → ℕ → List ℕ
-  endFrom a d values c = chain S seed (setChainAddress a c) (take S.n (drop (S.n * c) values)) (get_or d c 0) (15 - get_or d c 0)
+  unfoldable pub end_from : Address → List ℕ → List ℕ → ℕ → List ℕ
+  end_from a d values c = chain S seed (set_chain_address a c) (take S.n (drop (S.n * c) values)) (get_or d c 0) (15 - get_or d c 0)
 
-  pub end_by : (a : Address) (d values : List ℕ) (c w : ℕ) (b : Address) (x : List ℕ) (k : ℕ) (r : List ℕ) → w ≡ S.n → b ≡ setChainAddress a c
-      → x ≡ take (w * c + w - w * c) (drop (w * c) values) → k ≡ get_or d c 0 → r ≡ chain S seed b x k (15 - k) → r ≡ endFrom a d values c
-  unfolding endFrom
+  pub end_by : (a : Address) (d values : List ℕ) (c w : ℕ) (b : Address) (x : List ℕ) (k : ℕ) (r : List ℕ) → w ≡ S.n → b ≡ set_chain_address a c
+      → x ≡ take (w * c + w - w * c) (drop (w * c) values) → k ≡ get_or d c 0 → r ≡ chain S seed b x k (15 - k) → r ≡ end_from a d values c
+  unfolding end_from
   end_by a d values c w b x k r e eb ex ek er =
       let z : w * c + w - w * c ≡ w = omega arith in
       rw (er, eb, ex, z, ek, e)
@@ -41,23 +41,23 @@ module _ (S : Suite) (seed : List ℕ) where
 
   -- a step, from its key, its mask and their exclusive or
   pub step_by : (a : Address) (j : ℕ) (x key mask y r : List ℕ) → S.n ≤ 32
-      → take S.n key ≡ prfAt S seed (setKeyAndMask (setHashAddress a j) 0) → take S.n mask ≡ prfAt S seed (setKeyAndMask (setHashAddress a j) 1)
+      → take S.n key ≡ prf_at S seed (set_key_and_mask (set_hash_address a j) 0) → take S.n mask ≡ prf_at S seed (set_key_and_mask (set_hash_address a j) 1)
       → y ≡ xor 32 x mask → r ≡ S.F (take S.n key) (take S.n y) → r ≡ step S seed a j (take S.n x)
   unfolding step
-  step_by a j x key mask y r h ek em ey er = rw (er, ey, xor-front S.n 32 x mask h, ek, em)
+  step_by a j x key mask y r h ek em ey er = rw (er, ey, xor_front S.n 32 x mask h, ek, em)
 
   -- the chain ends from a signature of the value m
-  pub ends-from : (a : Address) (m d values : List ℕ) → take (len S) d ≡ digits (len₁ S) m
-      → tab (len S) (endFrom a d values) ≡ wotsPkFromSig S seed a (take S.n m) (parts S.n (len S) 0 values)
-  unfolding wotsPkFromSig parts endFrom
-  ends-from a m d values e =
-      tab-ext (len S) _ _ (λ c h.
-      rw (digit-by S m d e c h)
-      (ap (λ (x : List ℕ). chain S seed (setChainAddress a c) x (get_or (digits (len₁ S) (take S.n m)) c 0) (15 - get_or (digits (len₁ S) (take S.n m)) c 0))
-      (ap (λ (i : ℕ). take S.n (drop i values)) (sym (zero-add (S.n * c))) ∙ sym (getD-tab (len S) _ [] c h))))
+  pub ends_from : (a : Address) (m d values : List ℕ) → take (len S) d ≡ digits (len₁ S) m
+      → tab (len S) (end_from a d values) ≡ wots_pk_from_sig S seed a (take S.n m) (parts S.n (len S) 0 values)
+  unfolding wots_pk_from_sig parts end_from
+  ends_from a m d values e =
+      tab_ext (len S) _ _ (λ c h.
+      rw (digit_by S m d e c h)
+      (ap (λ (x : List ℕ). chain S seed (set_chain_address a c) x (get_or (digits (len₁ S) (take S.n m)) c 0) (15 - get_or (digits (len₁ S) (take S.n m)) c 0))
+      (ap (λ (i : ℕ). take S.n (drop i values)) (sym (zero-add (S.n * c))) ∙ sym (get_or-tab (len S) _ [] c h))))
 
   -- the chain values of the value m
   pub values_of : (a : Address) (m d : List ℕ) (sk : ℕ → List ℕ) → take (len S) d ≡ digits (len₁ S) m
-      → tab (len S) (λ c. chain S seed (setChainAddress a c) (sk c) 0 (get_or d c 0)) ≡ wotsSign S seed a (take S.n m) sk
-  unfolding wotsSign
-  values_of a m d sk e = tab-ext (len S) _ _ (λ c h. ap (chain S seed (setChainAddress a c) (sk c) 0) (digit-by S m d e c h))
+      → tab (len S) (λ c. chain S seed (set_chain_address a c) (sk c) 0 (get_or d c 0)) ≡ wots_sign S seed a (take S.n m) sk
+  unfolding wots_sign
+  values_of a m d sk e = tab_ext (len S) _ _ (λ c h. ap (chain S seed (set_chain_address a c) (sk c) 0) (digit_by S m d e c h))

@@ -2,8 +2,8 @@
 // Uses keyed and what lies below it.
 // The trees and the signatures use it.
 ghost use Rattle.std.specs.Prelude.{◌≡◌, ◌++◌, ◌+◌, ◌-◌, ◌*◌, ◌/◌, ◌%◌, ◌^◌, ◌<◌, ◌≤◌, length, get_or, take};
-ghost use Rattle.rfc8391.specs.Wots.{base_w, checksum, digits, len, step, chain, wotsPk, wotsPkFromSig};
-ghost use Rattle.keyed.specs.Seeds.{suiteOf, held, heldAll, valuesIn, seedOf, Prepared};
+ghost use Rattle.rfc8391.specs.Wots.{base_w, checksum, digits, len, step, chain, wots_pk, wots_pk_from_sig};
+ghost use Rattle.keyed.specs.Seeds.{suite_of, held, held_all, values_in, seed_of, Prepared};
 ghost use Rattle.onetime.specs.Secrets.{Ready, value_of};
 
 use keyed::Seed;
@@ -61,7 +61,7 @@ pub fn digits_of(m: [u8; 32], k: usize) -> [u8; 67]
 // One step of a chain, at position j. The selector is set for each key and mask, so that none is left over.
 fn chain_step(s: Seed, a: Address, j: u32, x: [u8; 32]) -> [u8; 32]
     requires { Prepared s }
-    ensures { held s result ≡ step (suiteOf s) (seedOf s) a j (held s x) }
+    ensures { held s result ≡ step (suite_of s) (seed_of s) a j (held s x) }
 {
     let at = a.set_hash_address(j);
     let key = keyed::prf(s, at.set_key_and_mask(0).encode());
@@ -77,7 +77,7 @@ pub struct Walked {
 
 pub fn walk(s: Seed, a: Address, x: [u8; 32], from: u32, steps: u32) -> Walked
     requires { Prepared s × (from + steps ≤ 15) }
-    ensures { held s result.value ≡ chain (suiteOf s) (seedOf s) a (held s x) from steps }
+    ensures { held s result.value ≡ chain (suite_of s) (seed_of s) a (held s x) from steps }
 {
     let mut v = x;
     let mut k = 0;
@@ -91,8 +91,8 @@ pub fn walk(s: Seed, a: Address, x: [u8; 32], from: u32, steps: u32) -> Walked
 
 // A walk from a secret value that writes what it reaches into a lent part of a value's length.
 pub fn walk_into(out: &mut [u8], s: Seed, a: Address, x: [u8; 32], steps: u32) -> Walked
-    requires { Prepared s × (length out.old ≡ (suiteOf s).n) × (steps ≤ 15) }
-    ensures { (held s result.value ≡ chain (suiteOf s) (seedOf s) a (held s x) 0 steps) × (out.new ≡ held s result.value) }
+    requires { Prepared s × (length out.old ≡ (suite_of s).n) × (steps ≤ 15) }
+    ensures { (held s result.value ≡ chain (suite_of s) (seed_of s) a (held s x) 0 steps) × (out.new ≡ held s result.value) }
 {
     let w = walk(s, a, x, 0, steps);
     let v = w.value;
@@ -102,16 +102,16 @@ pub fn walk_into(out: &mut [u8], s: Seed, a: Address, x: [u8; 32], steps: u32) -
 
 // Walks on from a signature's value to the chain's end. The digit says how far the signer came.
 fn walk_on(part: &[u8], s: Seed, a: Address, digit: u32) -> Walked
-    requires { Prepared s × (length part.now ≡ (suiteOf s).n) × (digit ≤ 15) }
-    ensures { held s result.value ≡ chain (suiteOf s) (seedOf s) a part.now digit (15 - digit) }
+    requires { Prepared s × (length part.now ≡ (suite_of s).n) × (digit ≤ 15) }
+    ensures { held s result.value ≡ chain (suite_of s) (seed_of s) a part.now digit (15 - digit) }
 {
     walk(s, a, rfc8391::value_of(part), digit, 15 - digit)
 }
 
 // The chain ends to which the chain values of a signature lead, at the one-time address a.
 pub fn ends_from(values: &[u8], s: Seed, a: Address, m: [u8; 32]) -> [[u8; 32]; 67]
-    requires { Prepared s × (length values.now ≡ (suiteOf s).n * len (suiteOf s)) }
-    ensures { heldAll s result ≡ wotsPkFromSig (suiteOf s) (seedOf s) a (held s m) (valuesIn s (len (suiteOf s)) values.now) }
+    requires { Prepared s × (length values.now ≡ (suite_of s).n * len (suite_of s)) }
+    ensures { held_all s result ≡ wots_pk_from_sig (suite_of s) (seed_of s) a (held s m) (values_in s (len (suite_of s)) values.now) }
 {
     let n = keyed::value_length_of(s);
     let d = digits_of(m, 2 * n);
@@ -142,7 +142,7 @@ pub struct Secrets {
 }
 
 pub fn secrets_of(secret: [u8; 32], s: Seed, at: Address) -> Secrets
-    ensures { Ready result × (result.secret ≡ secret) × (result.public ≡ s.bytes) × (result.at ≡ at) × (suiteOf result.leaf ≡ suiteOf s) }
+    ensures { Ready result × (result.secret ≡ secret) × (result.public ≡ s.bytes) × (result.at ≡ at) × (suite_of result.leaf ≡ suite_of s) }
 {
     let leaf_seed = keyed::prf(keyed::prepare_like(s, secret), rfc8391::to_bytes(at.w4));
     let leaf = keyed::prepare_like(s, leaf_seed);
@@ -165,8 +165,8 @@ pub fn secret_value(x: Secrets, c: u32) -> [u8; 32]
 
 // The chain ends of a leaf's secret values.
 pub fn ends_of(x: Secrets, s: Seed) -> [[u8; 32]; 67]
-    requires { Prepared s × Ready x × (suiteOf x.leaf ≡ suiteOf s) }
-    ensures { heldAll s result ≡ wotsPk (suiteOf s) (seedOf s) x.at (value_of x) }
+    requires { Prepared s × Ready x × (suite_of x.leaf ≡ suite_of s) }
+    ensures { held_all s result ≡ wots_pk (suite_of s) (seed_of s) x.at (value_of x) }
 {
     let n = keyed::value_length_of(s);
     let a = x.at;

@@ -4,70 +4,70 @@ use mathlib.Core.List.{List}
 use Prim.Native.Nat.{ℕ, zero, suc, ◌-◌, ◌<◌, ◌≤◌}
 use lib.ListN.{length}
 use Rattle.lists.specs.Bytes.{number}
-use Rattle.outcomes.specs.Outcome.{outcomeOf, unless}
-use Rattle.outcomes.proofs.Outcomes.{outcome-at, outcome-none, exactly}
-use Rattle.rfc8391.specs.Formats.{pathStart, signatureLength, signatureBytes}
+use Rattle.outcomes.specs.Outcome.{outcome_of, unless}
+use Rattle.outcomes.proofs.Outcomes.{outcome_at, outcome_none, exactly}
+use Rattle.rfc8391.specs.Formats.{path_start, signature_length, signature_bytes}
 use Rattle.keyed.specs.Sha2.{sha2}
 use Rattle.marks.specs.Page.{WellFormed}
-use Rattle.records.specs.Records.{recordLength, recordFrom}
-use Rattle.records.specs.Keys.{signedBy}
-use Rattle.operations.specs.Sign.{Stored, signRefusals, signEnd, signed, sign_of}
+use Rattle.records.specs.Records.{record_length, record_from}
+use Rattle.records.specs.Keys.{signed_by}
+use Rattle.operations.specs.Sign.{Stored, sign_refusals, sign_end, signed, sign_of}
 
 module _ (secret page : List ℕ) (s : ℕ) (m out : List ℕ) where
-  pub record-wrong : (length secret ≡ 132 → ⊥) → 1 ≡ outcomeOf (signRefusals sha2 secret page s m out)
-  unfolding signRefusals recordLength sha2
-  record-wrong n = sym (outcome-at (signRefusals sha2 secret page s m out) 0 n)
+  pub record_wrong : (length secret ≡ 132 → ⊥) → 1 ≡ outcome_of (sign_refusals sha2 secret page s m out)
+  unfolding sign_refusals record_length sha2
+  record_wrong n = sym (outcome_at (sign_refusals sha2 secret page s m out) 0 n)
 
-  pub type-unserved : length secret ≡ 132 → (number secret 0 4 ≡ 1 → ⊥) → 2 ≡ outcomeOf (signRefusals sha2 secret page s m out)
-  unfolding signRefusals recordLength sha2
-  type-unserved l n = sym (outcome-at (signRefusals sha2 secret page s m out) 1 (l, n))
+  pub type_unserved : length secret ≡ 132 → (number secret 0 4 ≡ 1 → ⊥) → 2 ≡ outcome_of (sign_refusals sha2 secret page s m out)
+  unfolding sign_refusals record_length sha2
+  type_unserved l n = sym (outcome_at (sign_refusals sha2 secret page s m out) 1 (l, n))
 
-  pub message-long : length secret ≡ 132 → number secret 0 4 ≡ 1 → 65536 < length m → 4 ≡ outcomeOf (signRefusals sha2 secret page s m out)
-  unfolding signRefusals recordLength sha2
-  message-long l t n = sym (outcome-at (signRefusals sha2 secret page s m out) 2 (l, (t, n)))
+  pub message_long : length secret ≡ 132 → number secret 0 4 ≡ 1 → 65536 < length m → 4 ≡ outcome_of (sign_refusals sha2 secret page s m out)
+  unfolding sign_refusals record_length sha2
+  message_long l t n = sym (outcome_at (sign_refusals sha2 secret page s m out) 2 (l, (t, n)))
 
   module _ (l : length secret ≡ 132) (t : number secret 0 4 ≡ 1) (w : length m ≤ 65536) where
-    pub room-wrong : (length out ≡ 2500 → ⊥) → 11 ≡ outcomeOf (signRefusals sha2 secret page s m out)
-    unfolding signRefusals recordLength signatureLength pathStart sha2
-    room-wrong n = sym (outcome-at (signRefusals sha2 secret page s m out) 3 (l, (t, (w, n))))
+    pub room_wrong : (length out ≡ 2500 → ⊥) → 11 ≡ outcome_of (sign_refusals sha2 secret page s m out)
+    unfolding sign_refusals record_length signature_length path_start sha2
+    room_wrong n = sym (outcome_at (sign_refusals sha2 secret page s m out) 3 (l, (t, (w, n))))
 
-    pub page-wrong : length out ≡ 2500 → (WellFormed page → ⊥) → 7 ≡ outcomeOf (signRefusals sha2 secret page s m out)
-    unfolding signRefusals recordLength signatureLength pathStart sha2
-    page-wrong o n = sym (outcome-at (signRefusals sha2 secret page s m out) 4 (l, (t, (w, (o, n)))))
+    pub page_wrong : length out ≡ 2500 → (WellFormed page → ⊥) → 7 ≡ outcome_of (sign_refusals sha2 secret page s m out)
+    unfolding sign_refusals record_length signature_length path_start sha2
+    page_wrong o n = sym (outcome_at (sign_refusals sha2 secret page s m out) 4 (l, (t, (w, (o, n)))))
 
-    pub not-stored : length out ≡ 2500 → WellFormed page → (Stored page s → ⊥) → 10 ≡ outcomeOf (signRefusals sha2 secret page s m out)
-    unfolding signRefusals recordLength signatureLength pathStart sha2
-    not-stored o p n = sym (outcome-at (signRefusals sha2 secret page s m out) 5 (l, (t, (w, (o, (p, n))))))
+    pub not_stored : length out ≡ 2500 → WellFormed page → (Stored page s → ⊥) → 10 ≡ outcome_of (sign_refusals sha2 secret page s m out)
+    unfolding sign_refusals record_length signature_length path_start sha2
+    not_stored o p n = sym (outcome_at (sign_refusals sha2 secret page s m out) 5 (l, (t, (w, (o, (p, n))))))
 
-    pub stored : length out ≡ 2500 → WellFormed page → Stored page s → 0 ≡ outcomeOf (signRefusals sha2 secret page s m out)
-    unfolding signRefusals recordLength signatureLength pathStart sha2
-    stored o p n = sym (outcome-none (signRefusals sha2 secret page s m out) (l, (t, (w, (o, (p, (n, tt)))))))
+    pub stored : length out ≡ 2500 → WellFormed page → Stored page s → 0 ≡ outcome_of (sign_refusals sha2 secret page s m out)
+    unfolding sign_refusals record_length signature_length path_start sha2
+    stored o p n = sym (outcome_none (sign_refusals sha2 secret page s m out) (l, (t, (w, (o, (p, (n, tt)))))))
 
   -- what is known where nothing refuses
   pub record Allowed : Type 0 where
-    pub secret-length : length secret ≡ 132
+    pub secret_length : length secret ≡ 132
     pub room : length out ≡ 2500
     pub one : 1 ≤ s
     pub most : s ≤ 1024
 
-  pub allowed : outcomeOf (signRefusals sha2 secret page s m out) ≡ 0 → Allowed
-  unfolding signRefusals recordLength signatureLength pathStart sha2
+  pub allowed : outcome_of (sign_refusals sha2 secret page s m out) ≡ 0 → Allowed
+  unfolding sign_refusals record_length signature_length path_start sha2
   allowed e =
-      let n = (exactly (signRefusals sha2 secret page s m out) refl).clear e in
-      record { secret-length = n.0; room = n.1.1.1.0; one = n.1.1.1.1.1.0.0.0; most = n.1.1.1.1.1.0.0.1 }
+      let n = (exactly (sign_refusals sha2 secret page s m out) refl).clear e in
+      record { secret_length = n.0; room = n.1.1.1.0; one = n.1.1.1.1.1.0.0.0; most = n.1.1.1.1.1.0.0.1 }
 
   -- the answer, by the outcome
-  pub sign-refused : (o : ℕ) → o ≡ outcomeOf (signRefusals sha2 secret page s m out) → (o ≡ 0 → ⊥) → signEnd (signed o s) out ≡ sign_of secret page s m out
+  pub sign_refused : (o : ℕ) → o ≡ outcome_of (sign_refusals sha2 secret page s m out) → (o ≡ 0 → ⊥) → sign_end (signed o s) out ≡ sign_of secret page s m out
   unfolding sign_of
-  sign-refused o e n = rw (← e) (go o n)
+  sign_refused o e n = rw (← e) (go o n)
     where
       go : (o : ℕ) → (o ≡ 0 → ⊥)
-          → signEnd (signed o s) out ≡ unless o
-          (signEnd (signed 0 0) (signatureBytes (signedBy sha2 (recordFrom sha2.n secret) (s - 1) m))) (λ k. signEnd (signed k s) out)
+          → sign_end (signed o s) out ≡ unless o
+          (sign_end (signed 0 0) (signature_bytes (signed_by sha2 (record_from sha2.n secret) (s - 1) m))) (λ k. sign_end (signed k s) out)
       go zero n = absurd (n refl)
       go (suc o) n = refl
 
-  pub sign-done : (out' : List ℕ) → outcomeOf (signRefusals sha2 secret page s m out) ≡ 0
-      → out' ≡ signatureBytes (signedBy sha2 (recordFrom 32 secret) (s - 1) m) → signEnd (signed 0 0) out' ≡ sign_of secret page s m out
+  pub sign_done : (out' : List ℕ) → outcome_of (sign_refusals sha2 secret page s m out) ≡ 0
+      → out' ≡ signature_bytes (signed_by sha2 (record_from 32 secret) (s - 1) m) → sign_end (signed 0 0) out' ≡ sign_of secret page s m out
   unfolding sign_of sha2
-  sign-done out' e q = ap (signEnd (signed 0 0)) q ∙ rw e
+  sign_done out' e q = ap (sign_end (signed 0 0)) q ∙ rw e

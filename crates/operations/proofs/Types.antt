@@ -6,24 +6,24 @@ use native.Mathlib.Omega.{arith}
 use lib.Dec.{eqb}
 use borrow.Author.Tests.{ne_eqb}
 use Rattle.lists.specs.Lists.{pick}
-use Rattle.rfc8391.specs.Formats.{valueLength, keyLength, served, keyType, hashOf, heightOf, pathStart, signatureLength}
+use Rattle.rfc8391.specs.Formats.{value_length, key_length, served, key_type, hash_of, height_of, path_start, signature_length}
 use Rattle.rfc8391.specs.declared.Hash.{Hash}
 use Rattle.rfc8391.specs.declared.Hash.TheVariants.{Sha2}
 use Rattle.rfc8391.specs.declared.KeyType.{KeyType}
 use Rattle.rfc8391.specs.declared.KeyType.TheVariants.{Served, Unknown}
 
 -- no number but 1, 2 and 3 is a type
-pub no-type : (t : ℕ) → (t ≡ 1 → ⊥) → (t ≡ 2 → ⊥) → (t ≡ 3 → ⊥) → keyType t ≡ Unknown
-unfolding keyType
-no-type t not1 not2 not3 = rw (ne_eqb t 1 not1, ne_eqb t 2 not2, ne_eqb t 3 not3)
+pub no_type : (t : ℕ) → (t ≡ 1 → ⊥) → (t ≡ 2 → ⊥) → (t ≡ 3 → ⊥) → key_type t ≡ Unknown
+unfolding key_type
+no_type t not1 not2 not3 = rw (ne_eqb t 1 not1, ne_eqb t 2 not2, ne_eqb t 3 not3)
 
 -- keys of every hash have one length, and signatures an index
-pub key-size : (g : Hash) → keyLength (valueLength g) ≡ 68
-unfolding keyLength valueLength
-key-size Sha2 = refl
+pub key_size : (g : Hash) → key_length (value_length g) ≡ 68
+unfolding key_length value_length
+key_size Sha2 = refl
 
-pub longer : (n h l : ℕ) → signatureLength n h ≡ l → 4 ≤ l
-unfolding signatureLength pathStart
+pub longer : (n h l : ℕ) → signature_length n h ≡ l → 4 ≤ l
+unfolding signature_length path_start
 longer n h l e = omega arith
 
 length_of : KeyType → ℕ
@@ -32,21 +32,21 @@ length_of Unknown = 0
 
 -- a row of the table: its length is that of its hash and its height
 Row : KeyType → Type 0
-Row t = (1 ≤ length_of t) × (heightOf t ≤ 20) × (signatureLength (valueLength (hashOf t)) (heightOf t) ≡ length_of t)
+Row t = (1 ≤ length_of t) × (height_of t ≤ 20) × (signature_length (value_length (hash_of t)) (height_of t) ≡ length_of t)
 
 -- a type is Served with the hash g, the height h and the length l
 pub record ServedAs (t : KeyType) (g : Hash) (h l : ℕ) : Type 0 where
   pub known : t ≡ Unknown → ⊥
-  pub hash : hashOf t ≡ g
-  pub height : heightOf t ≡ h
-  pub length : signatureLength (valueLength g) h ≡ l
+  pub hash : hash_of t ≡ g
+  pub height : height_of t ≡ h
+  pub length : signature_length (value_length g) h ≡ l
   pub few : h ≤ 20
 
 by_row : (t : KeyType) (g : Hash) (h l : ℕ) → t ≡ Served g h l → Row t → ServedAs t g h l
 unfolding Row length_of
 by_row t g h l e r =
-    let eg : hashOf t ≡ g = ap hashOf e in
-    let eh : heightOf t ≡ h = ap heightOf e in
+    let eg : hash_of t ≡ g = ap hash_of e in
+    let eh : height_of t ≡ h = ap height_of e in
     let el : length_of t ≡ l = ap length_of e in
     record {
       known = λ u. let z : length_of t ≡ 0 = ap length_of u in let p = r.0 in omega arith;
@@ -60,9 +60,9 @@ by_row t g h l e r =
 abbrev table : Bool → Bool → Bool → KeyType
 table a b c = pick a (Served Sha2 10 2500) (pick b (Served Sha2 16 2692) (pick c (Served Sha2 20 2820) Unknown))
 
-pub served-as : (n : ℕ) (g : Hash) (h l : ℕ) → keyType n ≡ Served g h l → ServedAs (keyType n) g h l
-unfolding keyType Row length_of signatureLength pathStart valueLength
-served-as n g h l = go (eqb n 1) (eqb n 2) (eqb n 3)
+pub served_as : (n : ℕ) (g : Hash) (h l : ℕ) → key_type n ≡ Served g h l → ServedAs (key_type n) g h l
+unfolding key_type Row length_of signature_length path_start value_length
+served_as n g h l = go (eqb n 1) (eqb n 2) (eqb n 3)
   where
     go : (a b c : Bool) → table a b c ≡ Served g h l → ServedAs (table a b c) g h l
     go true b c e = by_row _ g h l e (omega arith, omega arith, refl)
@@ -75,13 +75,13 @@ served-as n g h l = go (eqb n 1) (eqb n 2) (eqb n 3)
         known Unknown = 0
 
 -- a type that is not Unknown is Served with its hash, its height and their length
-pub known-is-served : (n : ℕ) → (keyType n ≡ Unknown → ⊥)
-    → keyType n ≡ served (hashOf (keyType n)) (heightOf (keyType n))
-unfolding keyType signatureLength pathStart valueLength
-known-is-served n = go (eqb n 1) (eqb n 2) (eqb n 3)
+pub known_is_served : (n : ℕ) → (key_type n ≡ Unknown → ⊥)
+    → key_type n ≡ served (hash_of (key_type n)) (height_of (key_type n))
+unfolding key_type signature_length path_start value_length
+known_is_served n = go (eqb n 1) (eqb n 2) (eqb n 3)
   where
     go : (a b c : Bool) → (table a b c ≡ Unknown → ⊥)
-        → table a b c ≡ served (hashOf (table a b c)) (heightOf (table a b c))
+        → table a b c ≡ served (hash_of (table a b c)) (height_of (table a b c))
     go true b c u = refl
     go false true c u = refl
     go false false true u = refl

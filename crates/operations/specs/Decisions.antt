@@ -9,13 +9,13 @@ use Rattle.rfc8391.specs.declared.Address.{Address}
 use Rattle.rfc8391.specs.declared.KeyType.{KeyType}
 use Rattle.rfc8391.specs.declared.KeyType.TheVariants.{Served, Unknown}
 
-served-number : KeyType → ℕ
-served-number (Served hash height length) = 1
-served-number Unknown = 0
+served_number : KeyType → ℕ
+served_number (Served hash height length) = 1
+served_number Unknown = 0
 
 pub unknown? : (t : KeyType) → Dec (t ≡ Unknown)
-unfolding served-number
-unknown? (Served hash height length) = no (λ e. let z : ◌≡◌ {A = ℕ} 1 0 = ap served-number e in absurd (omega arith))
+unfolding served_number
+unknown? (Served hash height length) = no (λ e. let z : ◌≡◌ {A = ℕ} 1 0 = ap served_number e in absurd (omega arith))
 unknown? Unknown = yes refl
 
 pub verify? : (S : Suite) (a : Address) (h : ℕ) (pk : PublicKey) (m : List ℕ) (sig : Signature) → Dec (verify S a h pk m sig)

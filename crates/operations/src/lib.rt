@@ -2,11 +2,11 @@
 // Uses the refusals of outcomes, the page of marks, records and signatures.
 // The promises, the checking program and the library for C and C++ use it.
 ghost use Rattle.std.specs.Prelude.{◌≡◌, true, false, ◌^◌, ◌≤◌, take};
-ghost use Rattle.outcomes.specs.Outcome.{outcomeOf};
+ghost use Rattle.outcomes.specs.Outcome.{outcome_of};
 ghost use Rattle.keyed.specs.Sha2.{sha2};
-ghost use Rattle.operations.specs.Check.{checkOf};
-ghost use Rattle.operations.specs.Make.{makeEnd, makeOf};
-ghost use Rattle.operations.specs.Sign.{signRefusals, signEnd, sign_of};
+ghost use Rattle.operations.specs.Check.{check_of};
+ghost use Rattle.operations.specs.Make.{make_end, make_of};
+ghost use Rattle.operations.specs.Sign.{sign_refusals, sign_end, sign_of};
 
 use marks::Tally;
 use rfc8391::KeyType;
@@ -56,7 +56,7 @@ fn same(a: [u8; 32], b: [u8; 32], n: usize) -> bool
 
 // Makes a key pair of 96 bytes of seed material: the secret record and the public key, into two lent buffers.
 pub fn make(kind: u32, material: &[u8], secret: &mut [u8], key: &mut [u8]) -> Made
-    ensures { makeEnd result secret.new key.new ≡ makeOf kind material.now secret.old key.old }
+    ensures { make_end result secret.new key.new ≡ make_of kind material.now secret.old key.old }
 {
     if material.len() != 96 {
         return Made { outcome: 1 };
@@ -78,7 +78,7 @@ pub fn make(kind: u32, material: &[u8], secret: &mut [u8], key: &mut [u8]) -> Ma
 
 // What refuses a signature, or 0. The out buffer is only measured.
 fn sign_refusal(secret: &[u8], page: &[u8], session: u32, message: &[u8], out: &[u8]) -> u32
-    ensures { result ≡ outcomeOf (signRefusals sha2 secret.now page.now session message.now out.now) }
+    ensures { result ≡ outcome_of (sign_refusals sha2 secret.now page.now session message.now out.now) }
 {
     if secret.len() != 132 {
         return 1;
@@ -107,7 +107,7 @@ fn sign_refusal(secret: &[u8], page: &[u8], session: u32, message: &[u8], out: &
 
 // Signs a message with the pending index, whose mark must be stored in the page. The session ends with the signature.
 pub fn sign(secret: &[u8], page: &[u8], session: u32, message: &[u8], out: &mut [u8]) -> Signed
-    ensures { signEnd result out.new ≡ sign_of secret.now page.now session message.now out.old }
+    ensures { sign_end result out.new ≡ sign_of secret.now page.now session message.now out.old }
 {
     let outcome = sign_refusal(secret, page, session, message, out);
     if outcome != 0 {
@@ -122,7 +122,7 @@ pub fn sign(secret: &[u8], page: &[u8], session: u32, message: &[u8], out: &mut 
 
 // Checks the signature of a message under a public key. Nothing of a signature is read before the key's type is known.
 pub fn check(key: &[u8], message: &[u8], signature: &[u8]) -> Checked
-    ensures { result ≡ checkOf key.now message.now signature.now }
+    ensures { result ≡ check_of key.now message.now signature.now }
 {
     if key.len() != 68 {
         return Checked { outcome: 1 };

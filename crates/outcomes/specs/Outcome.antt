@@ -12,9 +12,9 @@ decided (inl a) n m = n
 decided (inr b) n m = m
 
 -- the number of the first refusal whose condition holds, and 0 where none does
-unfoldable pub outcomeOf : Refusals → ℕ
-outcomeOf [] = 0
-outcomeOf (x ∷ l) = decided x.0.told x.1 (outcomeOf l)
+unfoldable pub outcome_of : Refusals → ℕ
+outcome_of [] = 0
+outcome_of (x ∷ l) = decided x.0.told x.1 (outcome_of l)
 
 -- what is done where the outcome is 0, and what is answered with any other
 abbrev pub unless : {A : Type 0} → ℕ → A → (ℕ → A) → A

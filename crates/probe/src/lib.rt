@@ -5,8 +5,8 @@ ghost use Rattle.std.specs.Prelude.{◌≡◌, take};
 ghost use Rattle.sha256.specs.Sha256.{sha256};
 ghost use Rattle.keyed.specs.Sha2.{sha2};
 ghost use Rattle.rfc8391.specs.House.{secrets};
-ghost use Rattle.rfc8391.specs.Xmss.{leafOf};
-ghost use Rattle.rfc8391.specs.Formats.{singleTree};
+ghost use Rattle.rfc8391.specs.Xmss.{leaf_of};
+ghost use Rattle.rfc8391.specs.Formats.{single_tree};
 
 use rfc8391::{Address, Hash};
 
@@ -21,8 +21,8 @@ pub extern "C" fn zab_probe_sha256(m: &[u8], out: &mut [u8; 32])
 #[unsafe(no_mangle)]
 pub extern "C" fn zab_probe_leaf(secret: &[u8; 32], public: &[u8; 32], i: u32, out: &mut [u8; 32])
     ensures { out.new
-        ≡ leafOf sha2 (take 32 public.now) singleTree
-        (secrets sha2 (take 32 secret.now) (take 32 public.now) singleTree) i }
+        ≡ leaf_of sha2 (take 32 public.now) single_tree
+        (secrets sha2 (take 32 secret.now) (take 32 public.now) single_tree) i }
 {
     *out = tree::leaf(
         *secret,

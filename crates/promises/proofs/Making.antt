@@ -3,31 +3,31 @@ use mathlib.Core.Path.{◌≡◌, refl, sym, subst, ◌∙◌}
 use mathlib.Core.List.{List}
 use Prim.Native.Nat.{ℕ, zero, suc}
 use native.Mathlib.Omega.{arith}
-use Rattle.outcomes.specs.Outcome.{outcomeOf, unless}
-use Rattle.outcomes.proofs.Outcomes.{at_place, at_none, unless-outcome}
-use Rattle.rfc8391.specs.Xmss.{publicKeyOf}
-use Rattle.rfc8391.specs.Formats.{keyLength, keyBytes}
+use Rattle.outcomes.specs.Outcome.{outcome_of, unless}
+use Rattle.outcomes.proofs.Outcomes.{at_place, at_none, unless_outcome}
+use Rattle.rfc8391.specs.Xmss.{public_key_of}
+use Rattle.rfc8391.specs.Formats.{key_length, key_bytes}
 use Rattle.keyed.specs.Sha2.{sha2}
-use Rattle.records.specs.Records.{recordLength, recordBytes, publicKey, materialLength}
-use Rattle.records.specs.Keys.{madeRecord}
-use Rattle.operations.specs.Make.{makeRefusals, MakeEnd, makeEnd, makeOf}
+use Rattle.records.specs.Records.{record_length, record_bytes, public_key, material_length}
+use Rattle.records.specs.Keys.{made_record}
+use Rattle.operations.specs.Make.{make_refusals, MakeEnd, make_end, make_of}
 use Rattle.promises.specs.Making.{MakeNumbers, KeyPair}
-use Rattle.promises.specs.Kept.{secretFor, keyFor}
+use Rattle.promises.specs.Kept.{secret_for, key_for}
 
 module _ (t : ℕ) (material secret key : List ℕ) where
-  make-outcome : (makeOf t material secret key).answer.outcome ≡ outcomeOf (makeRefusals sha2 t material secret key)
-  unfolding makeOf
-  make-outcome = unless-outcome (λ (e : MakeEnd). e.answer.outcome) _ _ (outcomeOf (makeRefusals sha2 t material secret key)) refl (λ k. refl)
+  make_outcome : (make_of t material secret key).answer.outcome ≡ outcome_of (make_refusals sha2 t material secret key)
+  unfolding make_of
+  make_outcome = unless_outcome (λ (e : MakeEnd). e.answer.outcome) _ _ (outcome_of (make_refusals sha2 t material secret key)) refl (λ k. refl)
 
-  pub make-numbers : MakeNumbers t material secret key (makeOf t material secret key).answer.outcome
-  unfolding makeRefusals materialLength recordLength keyLength sha2
-  make-numbers =
-      let l = makeRefusals sha2 t material secret key in
+  pub make_numbers : MakeNumbers t material secret key (make_of t material secret key).answer.outcome
+  unfolding make_refusals material_length record_length key_length sha2
+  make_numbers =
+      let l = make_refusals sha2 t material secret key in
       let p1 = at_place l 0 1 (λ e. omega arith) refl refl in
       let p2 = at_place l 1 2 (λ e. omega arith) refl refl in
       let p3 = at_place l 2 11 (λ e. omega arith) refl refl in
       let p0 = at_none l refl in
-      subst (MakeNumbers t material secret key) (sym make-outcome)
+      subst (MakeNumbers t material secret key) (sym make_outcome)
       (record {
         one = p1;
         two = p2;
@@ -36,27 +36,27 @@ module _ (t : ℕ) (material secret key : List ℕ) where
       })
 
   -- refused: both buffers as they were found; else the key pair
-  pub make-refused : ((makeOf t material secret key).answer.outcome ≡ 0 → ⊥) → ((makeOf t material secret key).secret ≡ secret) × ((makeOf t material secret key).key ≡ key)
-  unfolding makeOf
-  make-refused = go (outcomeOf (makeRefusals sha2 t material secret key))
+  pub make_refused : ((make_of t material secret key).answer.outcome ≡ 0 → ⊥) → ((make_of t material secret key).secret ≡ secret) × ((make_of t material secret key).key ≡ key)
+  unfolding make_of
+  make_refused = go (outcome_of (make_refusals sha2 t material secret key))
     where
       made : MakeEnd
-      made = makeEnd (record { outcome = 0 }) (recordBytes (madeRecord sha2 material)) (keyBytes (publicKey (madeRecord sha2 material)))
+      made = make_end (record { outcome = 0 }) (record_bytes (made_record sha2 material)) (key_bytes (public_key (made_record sha2 material)))
 
-      go : (o : ℕ) → ((unless o made (λ k. makeEnd (record { outcome = k }) secret key)).answer.outcome ≡ 0 → ⊥) → ((unless o made (λ k. makeEnd (record { outcome = k }) secret key)).secret ≡ secret) × ((unless o made (λ k. makeEnd (record { outcome = k }) secret key)).key ≡ key)
+      go : (o : ℕ) → ((unless o made (λ k. make_end (record { outcome = k }) secret key)).answer.outcome ≡ 0 → ⊥) → ((unless o made (λ k. make_end (record { outcome = k }) secret key)).secret ≡ secret) × ((unless o made (λ k. make_end (record { outcome = k }) secret key)).key ≡ key)
       go zero n = absurd (n refl)
       go (suc o) n = (refl, refl)
 
-  pub make-pair : (makeOf t material secret key).answer.outcome ≡ 0 → KeyPair material (makeOf t material secret key).secret (makeOf t material secret key).key
-  unfolding makeOf madeRecord publicKeyOf sha2
-  make-pair e = let z : outcomeOf (makeRefusals sha2 t material secret key) ≡ 0 = sym make-outcome ∙ e in rw z (record { public = refl; private = refl })
+  pub make_pair : (make_of t material secret key).answer.outcome ≡ 0 → KeyPair material (make_of t material secret key).secret (make_of t material secret key).key
+  unfolding make_of made_record public_key_of sha2
+  make_pair e = let z : outcome_of (make_refusals sha2 t material secret key) ≡ 0 = sym make_outcome ∙ e in rw z (record { public = refl; private = refl })
 
 -- a key pair is what making writes
 module _ (material secret key : List ℕ) (p : KeyPair material secret key) where
-  pub pair-secret : secret ≡ secretFor material
-  unfolding madeRecord sha2
-  pair-secret = p.private
+  pub pair_secret : secret ≡ secret_for material
+  unfolding made_record sha2
+  pair_secret = p.private
 
-  pub pair-key : key ≡ keyFor material
-  unfolding madeRecord publicKeyOf sha2
-  pair-key = p.public
+  pub pair_key : key ≡ key_for material
+  unfolding made_record public_key_of sha2
+  pair_key = p.public

@@ -4,38 +4,38 @@ use mathlib.Core.List.{List}
 use Prim.Native.Nat.{ℕ, zero, suc}
 use native.Mathlib.Omega.{arith}
 use lib.ListN.{length}
-use Rattle.outcomes.specs.Outcome.{outcomeOf, unless}
+use Rattle.outcomes.specs.Outcome.{outcome_of, unless}
 use Rattle.outcomes.proofs.Outcomes.{exactly}
 use Rattle.keyed.specs.Sha2.{sha2}
-use Rattle.records.specs.Records.{materialLength}
-use Rattle.operations.specs.Make.{makeRefusals, makeEnd, makeOf}
+use Rattle.records.specs.Records.{material_length}
+use Rattle.operations.specs.Make.{make_refusals, make_end, make_of}
 use Rattle.operations.specs.declared.Made.{Made}
 use Rattle.promises.specs.History.{honest}
-use Rattle.promises.specs.Kept.{secretFor, keyFor, AlwaysKept}
+use Rattle.promises.specs.Kept.{secret_for, key_for, AlwaysKept}
 use Rattle.promises.proofs.Story.{history}
 
 abbrev made : ℕ → Made
 made o = record { outcome = o }
 
 -- making (of type t, into s and k) that answered 0 and left s' and k'
-module _ (t : ℕ) (material s k s' k' : List ℕ) (r : Made) (e : makeEnd r s' k' ≡ makeOf t material s k) (z : r.outcome ≡ 0) where
+module _ (t : ℕ) (material s k s' k' : List ℕ) (r : Made) (e : make_end r s' k' ≡ make_of t material s k) (z : r.outcome ≡ 0) where
   record Pair : Type 0 where
     size : length material ≡ 96
-    secret : s' ≡ secretFor material
-    key : k' ≡ keyFor material
+    secret : s' ≡ secret_for material
+    key : k' ≡ key_for material
 
   pair : Pair
-  unfolding makeOf makeRefusals materialLength sha2
-  pair = go (outcomeOf (makeRefusals sha2 t material s k)) refl e
+  unfolding make_of make_refusals material_length sha2
+  pair = go (outcome_of (make_refusals sha2 t material s k)) refl e
     where
-      go : (o : ℕ) → outcomeOf (makeRefusals sha2 t material s k) ≡ o →
-          makeEnd r s' k' ≡ unless o (makeEnd (made 0) (secretFor material) (keyFor material)) (λ q. makeEnd (made q) s k) → Pair
+      go : (o : ℕ) → outcome_of (make_refusals sha2 t material s k) ≡ o →
+          make_end r s' k' ≡ unless o (make_end (made 0) (secret_for material) (key_for material)) (λ q. make_end (made q) s k) → Pair
       go zero q d =
-          let n = (exactly (makeRefusals sha2 t material s k) refl).clear q in
+          let n = (exactly (make_refusals sha2 t material s k) refl).clear q in
           record { size = n.0; secret = ap (λ x. x.secret) d; key = ap (λ x. x.key) d }
       go (suc o) q d = let x : r.outcome ≡ suc o = ap (λ x. x.answer.outcome) d in absurd (omega arith)
 
   pub pair_keeps : AlwaysKept (honest s') k'
   pair_keeps =
       subst (λ (σ : List ℕ). AlwaysKept (honest σ) k') (sym pair.secret)
-      (subst (AlwaysKept (honest (secretFor material))) (sym pair.key) (history material pair.size))
+      (subst (AlwaysKept (honest (secret_for material))) (sym pair.key) (history material pair.size))

@@ -3,17 +3,17 @@ use mathlib.Core.Path.{◌≡◌}
 use mathlib.Core.List.{List, ◌∷◌}
 use Prim.Native.Nat.{ℕ, suc, ◌+◌, ◌<◌, ◌≤◌}
 use lib.ListN.{length}
-use Rattle.rfc8391.specs.Formats.{signatureBytes}
+use Rattle.rfc8391.specs.Formats.{signature_bytes}
 use Rattle.keyed.specs.Sha2.{sha2}
 use Rattle.marks.proofs.Ordered.{page_of}
-use Rattle.records.specs.Records.{recordFrom}
-use Rattle.records.specs.Keys.{signedBy}
+use Rattle.records.specs.Records.{record_from}
+use Rattle.records.specs.Keys.{signed_by}
 use Rattle.promises.specs.History.{Given, given, State}
 use Rattle.promises.specs.Kept.{index_of, Every, Without, Distinct}
 
 -- the signature of message m by index i of a secret record
 abbrev pub signature_at : List ℕ → ℕ → List ℕ → List ℕ
-signature_at secret i m = signatureBytes (signedBy sha2 (recordFrom 32 secret) i m)
+signature_at secret i m = signature_bytes (signed_by sha2 (record_from 32 secret) i m)
 
 -- a property of restarts, used marks, session and signatures
 abbrev pub Property : Type 1
@@ -31,7 +31,7 @@ pub record Preserved (secret : List ℕ) (P : Property) : Type 0 where
 pub record Reached (P : Property) (n : ℕ) (st : State) : Type 0 where
   pub u : ℕ
   pub most : u ≤ 1024
-  pub is-page : st.page ≡ page_of u
+  pub is_page : st.page ≡ page_of u
   pub holds : P n u st.session st.given
 
 -- one that was given by an index below b
@@ -39,7 +39,7 @@ pub record SignedBelow (secret : List ℕ) (b : ℕ) (g : Given) : Type 0 where
   pub i : ℕ
   pub below : i < b
   pub short : length g.message ≤ 65536
-  pub is-signature : g.signature ≡ signature_at secret i g.message
+  pub is_signature : g.signature ≡ signature_at secret i g.message
   pub index : index_of g.signature ≡ i
 
 -- no index pending; index u pending, its mark not stored; index v pending, its mark stored.

@@ -3,24 +3,24 @@ use mathlib.Core.Path.{◌≡◌, refl, sym, subst, ◌∙◌}
 use mathlib.Core.List.{List}
 use Prim.Native.Nat.{ℕ, zero, suc, ◌-◌}
 use native.Mathlib.Omega.{arith}
-use Rattle.outcomes.specs.Outcome.{outcomeOf, unless}
-use Rattle.outcomes.proofs.Outcomes.{at_place, at_none, unless-outcome}
-use Rattle.rfc8391.specs.Formats.{pathStart, signatureLength, signatureBytes}
+use Rattle.outcomes.specs.Outcome.{outcome_of, unless}
+use Rattle.outcomes.proofs.Outcomes.{at_place, at_none, unless_outcome}
+use Rattle.rfc8391.specs.Formats.{path_start, signature_length, signature_bytes}
 use Rattle.keyed.specs.Sha2.{sha2}
-use Rattle.records.specs.Records.{recordLength, recordFrom}
-use Rattle.records.specs.Keys.{signedBy}
-use Rattle.operations.specs.Sign.{signRefusals, SignEnd, signEnd, signed, sign_of}
+use Rattle.records.specs.Records.{record_length, record_from}
+use Rattle.records.specs.Keys.{signed_by}
+use Rattle.operations.specs.Sign.{sign_refusals, SignEnd, sign_end, signed, sign_of}
 use Rattle.promises.specs.Signing.{SignNumbers}
 
 module _ (secret page : List ℕ) (s : ℕ) (m out : List ℕ) where
-  sign-outcome : (sign_of secret page s m out).answer.outcome ≡ outcomeOf (signRefusals sha2 secret page s m out)
+  sign_outcome : (sign_of secret page s m out).answer.outcome ≡ outcome_of (sign_refusals sha2 secret page s m out)
   unfolding sign_of
-  sign-outcome = unless-outcome (λ (e : SignEnd). e.answer.outcome) _ _ (outcomeOf (signRefusals sha2 secret page s m out)) refl (λ k. refl)
+  sign_outcome = unless_outcome (λ (e : SignEnd). e.answer.outcome) _ _ (outcome_of (sign_refusals sha2 secret page s m out)) refl (λ k. refl)
 
   pub sign_numbers : SignNumbers secret page s m out (sign_of secret page s m out).answer.outcome
-  unfolding signRefusals recordLength signatureLength pathStart sha2
+  unfolding sign_refusals record_length signature_length path_start sha2
   sign_numbers =
-      let l = signRefusals sha2 secret page s m out in
+      let l = sign_refusals sha2 secret page s m out in
       let p1 = at_place l 0 1 (λ e. omega arith) refl refl in
       let p2 = at_place l 1 2 (λ e. omega arith) refl refl in
       let p3 = at_place l 2 4 (λ e. omega arith) refl refl in
@@ -28,7 +28,7 @@ module _ (secret page : List ℕ) (s : ℕ) (m out : List ℕ) where
       let p5 = at_place l 4 7 (λ e. omega arith) refl refl in
       let p6 = at_place l 5 10 (λ e. omega arith) refl refl in
       let p0 = at_none l refl in
-      subst (SignNumbers secret page s m out) (sym sign-outcome)
+      subst (SignNumbers secret page s m out) (sym sign_outcome)
       (record {
         one = p1;
         two = p2;
@@ -52,17 +52,17 @@ module _ (secret page : List ℕ) (s : ℕ) (m out : List ℕ) where
       })
 
   -- refused: the buffer as it was found and the session as given; else session 0 and the signature of the pending index
-  pub sign-refused : ((sign_of secret page s m out).answer.outcome ≡ 0 → ⊥) → ((sign_of secret page s m out).out ≡ out) × ((sign_of secret page s m out).answer.session ≡ s)
+  pub sign_refused : ((sign_of secret page s m out).answer.outcome ≡ 0 → ⊥) → ((sign_of secret page s m out).out ≡ out) × ((sign_of secret page s m out).answer.session ≡ s)
   unfolding sign_of
-  sign-refused = go (outcomeOf (signRefusals sha2 secret page s m out))
+  sign_refused = go (outcome_of (sign_refusals sha2 secret page s m out))
     where
       given : SignEnd
-      given = signEnd (signed 0 0) (signatureBytes (signedBy sha2 (recordFrom sha2.n secret) (s - 1) m))
+      given = sign_end (signed 0 0) (signature_bytes (signed_by sha2 (record_from sha2.n secret) (s - 1) m))
 
-      go : (o : ℕ) → ((unless o given (λ k. signEnd (signed k s) out)).answer.outcome ≡ 0 → ⊥) → ((unless o given (λ k. signEnd (signed k s) out)).out ≡ out) × ((unless o given (λ k. signEnd (signed k s) out)).answer.session ≡ s)
+      go : (o : ℕ) → ((unless o given (λ k. sign_end (signed k s) out)).answer.outcome ≡ 0 → ⊥) → ((unless o given (λ k. sign_end (signed k s) out)).out ≡ out) × ((unless o given (λ k. sign_end (signed k s) out)).answer.session ≡ s)
       go zero n = absurd (n refl)
       go (suc o) n = (refl, refl)
 
-  pub sign-given : (sign_of secret page s m out).answer.outcome ≡ 0 → sign_of secret page s m out ≡ signEnd (signed 0 0) (signatureBytes (signedBy sha2 (recordFrom 32 secret) (s - 1) m))
+  pub sign_given : (sign_of secret page s m out).answer.outcome ≡ 0 → sign_of secret page s m out ≡ sign_end (signed 0 0) (signature_bytes (signed_by sha2 (record_from 32 secret) (s - 1) m))
   unfolding sign_of sha2
-  sign-given e = let z : outcomeOf (signRefusals sha2 secret page s m out) ≡ 0 = sym sign-outcome ∙ e in rw z
+  sign_given e = let z : outcome_of (sign_refusals sha2 secret page s m out) ≡ 0 = sym sign_outcome ∙ e in rw z

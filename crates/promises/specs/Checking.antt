@@ -2,8 +2,8 @@
 use Rattle.std.specs.Prelude.{◌≡◌, List, ◌↔◌, ℕ, ◌+◌, ◌*◌, ◌^◌, ◌<◌, ◌≤◌, length}
 use Rattle.lists.specs.Bytes.{number}
 use Rattle.rfc8391.specs.Suite.{Suite}
-use Rattle.rfc8391.specs.Xmss.{recomputedRoot}
-use Rattle.rfc8391.specs.Formats.{valueLength, keyFrom, signatureFrom, type_of, hashOf, heightOf, singleTree, Accepts}
+use Rattle.rfc8391.specs.Xmss.{recomputed_root}
+use Rattle.rfc8391.specs.Formats.{value_length, key_from, signature_from, type_of, hash_of, height_of, single_tree, Accepts}
 use Rattle.rfc8391.specs.declared.Hash.{Hash}
 use Rattle.rfc8391.specs.declared.KeyType.TheVariants.{Unknown}
 
@@ -11,13 +11,13 @@ use Rattle.rfc8391.specs.declared.KeyType.TheVariants.{Unknown}
 module _ (suites : Hash → Suite) (key m sig : List ℕ) where
   -- the key's type: its hash, the bytes of a value, and the height of the tree
   abbrev hash : Hash
-  hash = hashOf (type_of key)
+  hash = hash_of (type_of key)
 
   abbrev n : ℕ
-  n = valueLength hash
+  n = value_length hash
 
   abbrev h : ℕ
-  h = heightOf (type_of key)
+  h = height_of (type_of key)
 
   abbrev pub KeyFits : Type 0
   KeyFits = length key ≡ 68
@@ -37,7 +37,7 @@ module _ (suites : Hash → Suite) (key m sig : List ℕ) where
 
   -- Algorithm 14: the root recomputed from the signature is the key's, byte by byte
   abbrev pub RootAgrees : Type 0
-  RootAgrees = recomputedRoot (suites hash) singleTree h (keyFrom n key) m (signatureFrom n h sig) ≡ (keyFrom n key).root
+  RootAgrees = recomputed_root (suites hash) single_tree h (key_from n key) m (signature_from n h sig) ≡ (key_from n key).root
 
   -- each number exactly when its condition holds and none earlier does
   pub record CheckNumbers (outcome : ℕ) : Type 0 where

@@ -1,7 +1,7 @@
 -- Histories of calls on one key and its page, cut by restarts anywhere: over any operations, so that wrong ones can be put in their place.
 use Rattle.std.specs.Prelude.{Bool, List, [], ◌∷◌, ◌++◌, ℕ, zero, suc, replicate}
 use Rattle.lists.specs.Lists.{pick}
-use Rattle.marks.specs.Marking.{reserveOf, MarkEnd, mark_of}
+use Rattle.marks.specs.Marking.{reserve_of, MarkEnd, mark_of}
 use Rattle.marks.specs.declared.Reserved.{Reserved}
 use Rattle.operations.specs.Sign.{SignEnd, sign_of}
 use Rattle.promises.specs.declared.Kind.{Kind}
@@ -14,15 +14,15 @@ pub record Operations : Type 0 where
   pub sign : List ℕ → ℕ → List ℕ → List ℕ → SignEnd
 
 -- the first index of a page, and the end of its indices
-abbrev pub firstIndex : ℕ
-firstIndex = 0
+abbrev pub first_index : ℕ
+first_index = 0
 
-abbrev pub endIndex : ℕ
-endIndex = 1024
+abbrev pub end_index : ℕ
+end_index = 1024
 
 -- what the contracts of the code say, for the key of a secret record
 abbrev pub honest : List ℕ → Operations
-honest secret = record { reserve = reserveOf firstIndex endIndex; mark = mark_of; sign = sign_of secret }
+honest secret = record { reserve = reserve_of first_index end_index; mark = mark_of; sign = sign_of secret }
 
 -- what is called, with the message and the lent buffer, of which signing alone makes use
 pub record Call : Type 0 where
@@ -52,11 +52,11 @@ abbrev pub given : List ℕ → List ℕ → Given
 given m σ = record { message = m; signature = σ }
 
 -- one is given by signing whose outcome is 0, and by nothing else
-abbrev pub givenBy : Kind → List ℕ → ℕ → List ℕ → List Given
-givenBy Signing m zero o = given m o ∷ []
-givenBy Signing m (suc n) o = []
-givenBy Reserving m n o = []
-givenBy Marking m n o = []
+abbrev pub given_by : Kind → List ℕ → ℕ → List ℕ → List Given
+given_by Signing m zero o = given m o ∷ []
+given_by Signing m (suc n) o = []
+given_by Reserving m n o = []
+given_by Marking m n o = []
 
 -- the page as stored, the session that the last call returned, and the signatures given so far, the last one first
 pub record State : Type 0 where
@@ -74,7 +74,7 @@ pub data Step : Type 0 where
   restart : Step
 
 abbrev pub after_call : Call → After → List Given → State
-after_call c a g = state a.page a.session (givenBy c.kind c.message a.outcome a.out ++ g)
+after_call c a g = state a.page a.session (given_by c.kind c.message a.outcome a.out ++ g)
 
 module _ (O : Operations) where
   abbrev pub kind_of : Kind → List ℕ → List ℕ → List ℕ → ℕ → After

@@ -2,10 +2,10 @@
 use Rattle.std.specs.Prelude.{◌≡◌, List, ◌↔◌, ℕ, ◌≤◌, length}
 use Rattle.lists.specs.Bytes.{number}
 use Rattle.rfc8391.specs.Xmss.{signature_of}
-use Rattle.rfc8391.specs.Formats.{signatureBytes, singleTree}
+use Rattle.rfc8391.specs.Formats.{signature_bytes, single_tree}
 use Rattle.keyed.specs.Sha2.{sha2}
 use Rattle.marks.specs.Page.{used, WellFormed}
-use Rattle.promises.specs.Making.{messageKey, publicSeed, secretValues}
+use Rattle.promises.specs.Making.{message_key, public_seed, secret_values}
 
 module _ (secret page : List ℕ) (session : ℕ) (m out : List ℕ) where
   abbrev RecordFits : Type 0
@@ -35,6 +35,6 @@ module _ (secret page : List ℕ) (session : ℕ) (m out : List ℕ) where
     pub done : (outcome ≡ 0) ↔ (RecordFits × TypeServed × MessageFits × OutFits × WellFormed page × PageFits)
 
 -- RFC 8391's signature of a message by index i, with the key that seed material gives
-abbrev pub signatureFor : List ℕ → ℕ → List ℕ → List ℕ
-signatureFor material i m =
-    signatureBytes (signature_of sha2 (publicSeed material) singleTree (secretValues material) (messageKey material) 10 i m)
+abbrev pub signature_for : List ℕ → ℕ → List ℕ → List ℕ
+signature_for material i m =
+    signature_bytes (signature_of sha2 (public_seed material) single_tree (secret_values material) (message_key material) 10 i m)

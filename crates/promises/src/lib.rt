@@ -5,21 +5,21 @@ ghost use Rattle.std.specs.Prelude.{◌≡◌, List, ◌↔◌, ℕ, ◌+◌, �
 ghost use Rattle.lists.specs.Bytes.{number};
 ghost use Rattle.keyed.specs.Sha2.{sha2};
 ghost use Rattle.keyed.specs.Suites.{suite};
-ghost use Rattle.rfc8391.specs.Formats.{signatureBytes};
-ghost use Rattle.records.specs.Records.{recordFrom};
-ghost use Rattle.records.specs.Keys.{signedBy};
+ghost use Rattle.rfc8391.specs.Formats.{signature_bytes};
+ghost use Rattle.records.specs.Records.{record_from};
+ghost use Rattle.records.specs.Keys.{signed_by};
 ghost use Rattle.marks.specs.Page.{used, WellFormed, Ordered};
-ghost use Rattle.marks.specs.Marking.{MarkEnd, reserveOf, markEnd, mark_of};
+ghost use Rattle.marks.specs.Marking.{MarkEnd, reserve_of, mark_end, mark_of};
 ghost use Rattle.marks.specs.Shown.{ReserveNumbers, MarkNumbers, OneMark, StoredByte};
-ghost use Rattle.operations.specs.Check.{checkOf};
-ghost use Rattle.operations.specs.Make.{MakeEnd, makeEnd, makeOf};
-ghost use Rattle.operations.specs.Sign.{SignEnd, signEnd, sign_of};
+ghost use Rattle.operations.specs.Check.{check_of};
+ghost use Rattle.operations.specs.Make.{MakeEnd, make_end, make_of};
+ghost use Rattle.operations.specs.Sign.{SignEnd, sign_end, sign_of};
 ghost use Rattle.promises.specs.Checking.{CheckNumbers, Accepted};
 ghost use Rattle.promises.specs.Making.{MakeNumbers, KeyPair};
-ghost use Rattle.promises.specs.Signing.{SignNumbers, signatureFor};
+ghost use Rattle.promises.specs.Signing.{SignNumbers, signature_for};
 ghost use Rattle.promises.specs.Table.{Table};
 ghost use Rattle.promises.specs.History.{honest, Step};
-ghost use Rattle.promises.specs.Kept.{secretFor, keyFor, AlwaysKept, Restarted};
+ghost use Rattle.promises.specs.Kept.{secret_for, key_for, AlwaysKept, Restarted};
 ghost use Rattle.promises.specs.Call.{Called, Ran};
 
 use marks::{Marked, Reserved};
@@ -63,7 +63,7 @@ pub fn made_keys_are_those_of_rfc_8391(
 
 // The statement of making allows one answer alone, and one content of each buffer.
 pub fn making_has_one_answer(kind: u32, material: &[u8], secret: &mut [u8], key: &mut [u8]) -> Made
-    ensures { (e : MakeEnd) → e ≡ makeOf kind material.now secret.old key.old → e ≡ makeEnd result secret.new key.new }
+    ensures { (e : MakeEnd) → e ≡ make_of kind material.now secret.old key.old → e ≡ make_end result secret.new key.new }
 {
     operations::make(kind, material, secret, key)
 }
@@ -103,7 +103,7 @@ pub fn byte_handed_out_is_what_marking_stores(page: &[u8], session: u32) -> Rese
 
 // The statement of reserving allows one answer alone.
 pub fn reserving_has_one_answer(page: &[u8], session: u32) -> Reserved
-    ensures { (e : Reserved) → e ≡ reserveOf 0 1024 page.now session → e ≡ result }
+    ensures { (e : Reserved) → e ≡ reserve_of 0 1024 page.now session → e ≡ result }
 {
     marks::reserve(page, session)
 }
@@ -138,7 +138,7 @@ pub fn marking_uses_one_mark(page: &mut [u8], session: u32) -> Marked
 
 // The statement of marking allows one answer alone, and one page.
 pub fn marking_has_one_answer(page: &mut [u8], session: u32) -> Marked
-    ensures { (e : MarkEnd) → e ≡ mark_of page.old session → e ≡ markEnd result page.new }
+    ensures { (e : MarkEnd) → e ≡ mark_of page.old session → e ≡ mark_end result page.new }
 {
     marks::mark(page, session)
 }
@@ -178,7 +178,7 @@ pub fn signatures_are_those_of_rfc_8391(
     message: &[u8],
     out: &mut [u8],
 ) -> Signed
-    ensures { (material key : List ℕ) → length material ≡ 96 → KeyPair material secret.now key → result.outcome ≡ 0 → out.new ≡ signatureFor material (session - 1) message.now }
+    ensures { (material key : List ℕ) → length material ≡ 96 → KeyPair material secret.now key → result.outcome ≡ 0 → out.new ≡ signature_for material (session - 1) message.now }
 {
     operations::sign(secret, page, session, message, out)
 }
@@ -191,7 +191,7 @@ pub fn signing_ends_the_session(
     message: &[u8],
     out: &mut [u8],
 ) -> Signed
-    ensures { result.outcome ≡ 0 → (result.session ≡ 0) × (out.new ≡ signatureBytes (signedBy sha2 (recordFrom 32 secret.now) (session - 1) message.now)) }
+    ensures { result.outcome ≡ 0 → (result.session ≡ 0) × (out.new ≡ signature_bytes (signed_by sha2 (record_from 32 secret.now) (session - 1) message.now)) }
 {
     operations::sign(secret, page, session, message, out)
 }
@@ -204,7 +204,7 @@ pub fn signing_has_one_answer(
     message: &[u8],
     out: &mut [u8],
 ) -> Signed
-    ensures { (e : SignEnd) → e ≡ sign_of secret.now page.now session message.now out.old → e ≡ signEnd result out.new }
+    ensures { (e : SignEnd) → e ≡ sign_of secret.now page.now session message.now out.old → e ≡ sign_end result out.new }
 {
     operations::sign(secret, page, session, message, out)
 }
@@ -248,14 +248,14 @@ pub fn checking_accepts_what_rfc_8391_accepts(
 
 // Demands 2 and 3 meet: what was signed with a key that making wrote is accepted for its message, for every index of the tree.
 pub fn honest_signature_is_accepted(key: &[u8], message: &[u8], signature: &[u8]) -> Checked
-    ensures { (material secret : List ℕ) (i : ℕ) → length material ≡ 96 → i < 1024 → length message.now ≤ 65536 → KeyPair material secret key.now → signature.now ≡ signatureFor material i message.now → result.outcome ≡ 0 }
+    ensures { (material secret : List ℕ) (i : ℕ) → length material ≡ 96 → i < 1024 → length message.now ≤ 65536 → KeyPair material secret key.now → signature.now ≡ signature_for material i message.now → result.outcome ≡ 0 }
 {
     operations::check(key, message, signature)
 }
 
 // The statement of checking allows one answer alone.
 pub fn checking_has_one_answer(key: &[u8], message: &[u8], signature: &[u8]) -> Checked
-    ensures { (s : Checked) → s ≡ checkOf key.now message.now signature.now → s ≡ result }
+    ensures { (s : Checked) → s ≡ check_of key.now message.now signature.now → s ≡ result }
 {
     operations::check(key, message, signature)
 }
@@ -330,7 +330,7 @@ pub fn a_call_is_a_step(
 // No two carry the same index. Marks used never exceed signatures given plus restarts plus one. Reserving with no index pending is refused
 // for want of indices exactly when all 1,024 marks are used."
 pub fn every_history_keeps_demand_three()
-    ensures { (material : List ℕ) → length material ≡ 96 → AlwaysKept (honest (secretFor material)) (keyFor material) }
+    ensures { (material : List ℕ) → length material ≡ 96 → AlwaysKept (honest (secret_for material)) (key_for material) }
 {}
 
 // Demand 3 begins: "Take a key pair made by demand 2": whatever making writes into the two lent buffers keeps the rest.

@@ -15,10 +15,10 @@ pub filled : (w v : List ℕ) (k : ℕ) → length w ≡ k → w ≡ take k v �
 filled w v k l e h = e ∙ take_all k v (omega arith)
 
 -- three parts that fill a buffer
-pub three-parts : (out x y z x₀ y₀ z₀ : List ℕ) (a b c ab : ℕ) → x ≡ x₀ → y ≡ y₀ → z ≡ z₀ → length x₀ ≡ a → length y₀ ≡ b → ab ≡ a + b → length out ≡ ab + c →
+pub three_parts : (out x y z x₀ y₀ z₀ : List ℕ) (a b c ab : ℕ) → x ≡ x₀ → y ≡ y₀ → z ≡ z₀ → length x₀ ≡ a → length y₀ ≡ b → ab ≡ a + b → length out ≡ ab + c →
     take ab (take a (x ++ drop a out) ++ (y ++ drop b (drop a (x ++ drop a out)))) ++
     (z ++ drop c (drop ab (take a (x ++ drop a out) ++ (y ++ drop b (drop a (x ++ drop a out)))))) ≡ x₀ ++ (y₀ ++ z₀)
-three-parts out x y z x₀ y₀ z₀ a b c ab qx qy qz lx ly e l =
+three_parts out x y z x₀ y₀ z₀ a b c ab qx qy qz lx ly e l =
     let ex : length x ≡ a = ap (λ (w : List ℕ). length w) qx ∙ lx in
     let ey : length y ≡ b = ap (λ (w : List ℕ). length w) qy ∙ ly in
     let inner : take a (x ++ drop a out) ++ (y ++ drop b (drop a (x ++ drop a out))) ≡ (x ++ y) ++ drop b (drop a out) =
@@ -40,8 +40,8 @@ copied p q new k l e =
     e ∙ rw (take_all (length p) p (omega arith), drop_of_length-le (take k q) few) (append-nil p)
 
 -- a list of three parts in front of another
-pub three-before : (l r : List ℕ) (n : ℕ) → length l ≡ 3 * n → l ++ r ≡ take n l ++ (take n (drop n l) ++ (take n (drop (2 * n) l) ++ r))
-three-before l r n e =
+pub three_before : (l r : List ℕ) (n : ℕ) → length l ≡ 3 * n → l ++ r ≡ take n l ++ (take n (drop n l) ++ (take n (drop (2 * n) l) ++ r))
+three_before l r n e =
     let k : n + n ≡ 2 * n = omega arith in
     let d : drop n (drop n l) ≡ drop (2 * n) l = drop-drop n n l ∙ ap (λ (j : ℕ). drop j l) k in
     let c : take n (drop (2 * n) l) ≡ drop n (drop n l) = take_all n (drop (2 * n) l) (rw length-drop (omega arith)) ∙ sym d in

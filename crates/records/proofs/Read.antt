@@ -5,9 +5,9 @@ use Prim.Native.Nat.{ℕ, ◌+◌, ◌*◌, ◌^◌, ◌<◌}
 use native.Mathlib.Omega.{arith}
 use lib.ListN.{length, take, drop, length-append}
 use Rattle.lists.specs.Bytes.{to_byte, number}
-use Rattle.lists.proofs.Numbers.{length-toByte}
+use Rattle.lists.proofs.Numbers.{length-to_byte}
 use Rattle.rfc8391.proofs.Formats.{front-number, middle}
-use Rattle.records.specs.Records.{SecretRecord, recordBytes, recordFrom}
+use Rattle.records.specs.Records.{SecretRecord, record_bytes, record_from}
 
 -- what a secret record must be for its bytes to hold it
 pub record RecordFits (n : ℕ) (r : SecretRecord) : Type 0 where
@@ -18,15 +18,15 @@ pub record RecordFits (n : ℕ) (r : SecretRecord) : Type 0 where
   pub root : length r.root ≡ n
 
 -- a secret record is read back
-pub record-read : (n : ℕ) (r : SecretRecord) → RecordFits n r → recordFrom n (recordBytes r) ≡ r
-unfolding recordFrom recordBytes
-record-read n r f =
+pub record_read : (n : ℕ) (r : SecretRecord) → RecordFits n r → record_from n (record_bytes r) ≡ r
+unfolding record_from record_bytes
+record_read n r f =
     let t : List ℕ = to_byte r.type 4 in
     let s : List ℕ = r.secret in
     let k : List ℕ = r.prfkey in
     let p : List ℕ = r.public in
     let o : List ℕ = r.root in
-    let l1 : length t ≡ 4 = length-toByte r.type 4 in
+    let l1 : length t ≡ 4 = length-to_byte r.type 4 in
     let l2 : length (t ++ s) ≡ 4 + n = rw length-append (omega (arith, f.secret)) in
     let l3 : length ((t ++ s) ++ k) ≡ 4 + 2 * n = rw length-append (omega (arith, f.prfkey)) in
     let l4 : length (((t ++ s) ++ k) ++ p) ≡ 4 + 3 * n = rw length-append (omega (arith, f.public)) in

@@ -12,14 +12,14 @@ pub record SecretRecord : Type 0 where
   pub root : List ℕ
 
 -- type (4 bytes), secret seed, message key, public seed, root
-unfoldable pub recordLength : ℕ → ℕ
-recordLength n = 4 + 4 * n
+unfoldable pub record_length : ℕ → ℕ
+record_length n = 4 + 4 * n
 
-unfoldable pub recordBytes : SecretRecord → List ℕ
-recordBytes r = to_byte r.type 4 ++ (r.secret ++ (r.prfkey ++ (r.public ++ r.root)))
+unfoldable pub record_bytes : SecretRecord → List ℕ
+record_bytes r = to_byte r.type 4 ++ (r.secret ++ (r.prfkey ++ (r.public ++ r.root)))
 
-unfoldable pub recordFrom : ℕ → List ℕ → SecretRecord
-recordFrom n b =
+unfoldable pub record_from : ℕ → List ℕ → SecretRecord
+record_from n b =
     record {
       type = number b 0 4;
       secret = take n (drop 4 b);
@@ -29,14 +29,14 @@ recordFrom n b =
     }
 
 -- the public key that belongs to a secret record
-abbrev pub publicKey : SecretRecord → PublicKey
-publicKey r = record { type = r.type; root = r.root; seed = r.public }
+abbrev pub public_key : SecretRecord → PublicKey
+public_key r = record { type = r.type; root = r.root; seed = r.public }
 
 -- seed material: secret seed, message key, public seed
-unfoldable pub materialLength : ℕ → ℕ
-materialLength n = 3 * n
+unfoldable pub material_length : ℕ → ℕ
+material_length n = 3 * n
 
 -- the record of seed material with a root
-abbrev pub recordWith : ℕ → ℕ → List ℕ → List ℕ → SecretRecord
-recordWith n type material root =
+abbrev pub record_with : ℕ → ℕ → List ℕ → List ℕ → SecretRecord
+record_with n type material root =
     record { type = type; secret = take n material; prfkey = take n (drop n material); public = take n (drop (2 * n) material); root = root }

@@ -4,15 +4,15 @@
 ghost use Rattle.std.specs.Prelude.{◌≡◌, ◌++◌, length};
 ghost use Rattle.lists.specs.Bytes.{to_byte};
 ghost use Rattle.keyed.specs.Sha2.{sha2};
-ghost use Rattle.records.specs.Records.{recordBytes, recordWith};
-ghost use Rattle.records.specs.Keys.{madeRecord};
+ghost use Rattle.records.specs.Records.{record_bytes, record_with};
+ghost use Rattle.records.specs.Keys.{made_record};
 
 use rfc8391::{Address, Hash};
 
 // The root of the key that seed material gives.
 pub fn made_root(material: &[u8]) -> [u8; 32]
     requires { length material.now ≡ 96 }
-    ensures { result ≡ (madeRecord sha2 material.now).root }
+    ensures { result ≡ (made_record sha2 material.now).root }
 {
     let secret = rfc8391::value_of(&material[0..32]);
     let public = rfc8391::value_of(&material[64..96]);
@@ -27,7 +27,7 @@ pub fn made_root(material: &[u8]) -> [u8; 32]
 
 pub fn write_record(out: &mut [u8], material: &[u8], root: [u8; 32])
     requires { (length out.old ≡ 132) × (length material.now ≡ 96) }
-    ensures { out.new ≡ recordBytes (recordWith 32 1 material.now root) }
+    ensures { out.new ≡ record_bytes (record_with 32 1 material.now root) }
 {
     lists::write_number(&mut out[0..4], 1);
     bytes::copy(material, &mut out[4..100]);

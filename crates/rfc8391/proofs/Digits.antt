@@ -9,8 +9,8 @@ use lib.Seq.{get_or-append-add, get_or-take}
 use native.Mathlib.Numerals.{add-one}
 use Rattle.lists.specs.Lists.{tab}
 use Rattle.lists.specs.Bytes.{to_byte}
-use Rattle.lists.proofs.Tabs.{length-tab, getD-tab, tab-ext}
-use Rattle.lists.proofs.Everywhere.{append-all, tab-all}
+use Rattle.lists.proofs.Tabs.{length-tab, get_or-tab, tab_ext}
+use Rattle.lists.proofs.Everywhere.{append_all, tab_all}
 use Rattle.rfc8391.specs.Wots.{base_w, checksum, total, digits}
 
 -- k digits are k
@@ -24,52 +24,52 @@ unfolding digits
 length_digits k m = simp (length-append, length-base_w)
 
 -- every digit is at most 15
-base_w-small : (x : List ℕ) (k i : ℕ) → get_or (base_w x k) i 0 ≤ 15
+base_w_small : (x : List ℕ) (k i : ℕ) → get_or (base_w x k) i 0 ≤ 15
 unfolding base_w
-base_w-small x k i =
-    tab-all 0 (λ d. d ≤ 15) k _ (omega arith) (λ j. let h : get_or x (j / 2) 0 / 16 ^ (1 - j % 2) % 16 < 16 = mod-lt _ (omega arith) in omega arith) i
+base_w_small x k i =
+    tab_all 0 (λ d. d ≤ 15) k _ (omega arith) (λ j. let h : get_or x (j / 2) 0 / 16 ^ (1 - j % 2) % 16 < 16 = mod-lt _ (omega arith) in omega arith) i
 
-pub digit-small : (k : ℕ) (m : List ℕ) (i : ℕ) → get_or (digits k m) i 0 ≤ 15
+pub digit_small : (k : ℕ) (m : List ℕ) (i : ℕ) → get_or (digits k m) i 0 ≤ 15
 unfolding digits
-digit-small k m i =
+digit_small k m i =
     let c : List ℕ = to_byte (checksum (base_w m k) * 2 ^ 4) 2 in
-    append-all 0 (λ d. d ≤ 15) (base_w m k) (base_w c 3) (base_w-small m k) (base_w-small c 3) i
+    append_all 0 (λ d. d ≤ 15) (base_w m k) (base_w c 3) (base_w_small m k) (base_w_small c 3) i
 
 -- sums over two lists, one after the other
-pub checksum-append : (l r : List ℕ) → checksum (l ++ r) ≡ checksum l + checksum r
+pub checksum_append : (l r : List ℕ) → checksum (l ++ r) ≡ checksum l + checksum r
 unfolding checksum
-checksum-append [] r = omega arith
-checksum-append (d ∷ l) r = rw (checksum-append l r) (omega arith)
+checksum_append [] r = omega arith
+checksum_append (d ∷ l) r = rw (checksum_append l r) (omega arith)
 
 -- one digit more in the checksum
-pub checksum-more : (x : List ℕ) (k : ℕ) → checksum (base_w x (k + 1)) ≡ checksum (base_w x k) + (15 - get_or x (k / 2) 0 / 16 ^ (1 - k % 2) % 16)
+pub checksum_more : (x : List ℕ) (k : ℕ) → checksum (base_w x (k + 1)) ≡ checksum (base_w x k) + (15 - get_or x (k / 2) 0 / 16 ^ (1 - k % 2) % 16)
 unfolding base_w tab checksum
-checksum-more x k = rw add-one (checksum-append (base_w x k) _ ∙ omega arith)
+checksum_more x k = rw add-one (checksum_append (base_w x k) _ ∙ omega arith)
 
 -- a digit of the value, and one of the checksum
-pub digit-of-value : (k : ℕ) (m c : List ℕ) (i : ℕ) → i < k → get_or (base_w m k ++ base_w c 3) i 0 ≡ get_or m (i / 2) 0 / 16 ^ (1 - i % 2) % 16
+pub digit_of_value : (k : ℕ) (m c : List ℕ) (i : ℕ) → i < k → get_or (base_w m k ++ base_w c 3) i 0 ≡ get_or m (i / 2) 0 / 16 ^ (1 - i % 2) % 16
 unfolding base_w
-digit-of-value k m c i h = get_or-append (base_w m k) (base_w c 3) 0 i (rw length-base_w h) ∙ getD-tab k _ 0 i h
+digit_of_value k m c i h = get_or-append (base_w m k) (base_w c 3) 0 i (rw length-base_w h) ∙ get_or-tab k _ 0 i h
 
-pub digit-of-checksum : (k : ℕ) (m c : List ℕ) (i j : ℕ) → i ≡ k + j → j < 3
+pub digit_of_checksum : (k : ℕ) (m c : List ℕ) (i j : ℕ) → i ≡ k + j → j < 3
     → get_or (base_w m k ++ base_w c 3) i 0 ≡ get_or c (j / 2) 0 / 16 ^ (1 - j % 2) % 16
 unfolding base_w
-digit-of-checksum k m c i j e h =
+digit_of_checksum k m c i j e h =
     rw e (ap (λ (l : ℕ). get_or (base_w m k ++ base_w c 3) (l + j) 0) (sym (length-base_w m k)) ∙ get_or-append-add (base_w m k)
-    (base_w c 3) j 0 ∙ getD-tab 3 _ 0 j h)
+    (base_w c 3) j 0 ∙ get_or-tab 3 _ 0 j h)
 
 -- what signing walks and what checking walks are 15 a chain
-pub sums-meet : (l : List ℕ) → ((i : ℕ) → get_or l i 0 ≤ 15) → total l + checksum l ≡ 15 * length l
+pub sums_meet : (l : List ℕ) → ((i : ℕ) → get_or l i 0 ≤ 15) → total l + checksum l ≡ 15 * length l
 unfolding total checksum
-sums-meet [] h = refl
-sums-meet (d ∷ l) h =
-    let ih : total l + checksum l ≡ 15 * length l = sums-meet l (λ i. h (suc i)) in
+sums_meet [] h = refl
+sums_meet (d ∷ l) h =
+    let ih : total l + checksum l ≡ 15 * length l = sums_meet l (λ i. h (suc i)) in
     omega (arith, h 0)
 
 -- the digits of a value's n bytes are the same where more bytes stand behind them
 base_w-front : (n k : ℕ) (m : List ℕ) → k ≤ 2 * n → base_w (take n m) k ≡ base_w m k
 unfolding base_w
-base_w-front n k m h = tab-ext k _ _ (λ i q. ap (λ (b : ℕ). b / 16 ^ (1 - i % 2) % 16) (get_or-take n m (i / 2) 0 (omega arith)))
+base_w-front n k m h = tab_ext k _ _ (λ i q. ap (λ (b : ℕ). b / 16 ^ (1 - i % 2) % 16) (get_or-take n m (i / 2) 0 (omega arith)))
 
 pub digits-front : (n : ℕ) (m : List ℕ) → digits (2 * n) (take n m) ≡ digits (2 * n) m
 unfolding digits

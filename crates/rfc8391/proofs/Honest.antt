@@ -5,50 +5,50 @@ use Prim.Native.Nat.{ℕ, ◌^◌, ◌<◌}
 use native.Mathlib.Omega.{arith}
 use Rattle.lists.proofs.Tabs.{length-tab}
 use Rattle.rfc8391.specs.Suite.{Suite, Value, Values}
-use Rattle.rfc8391.specs.Wots.{wotsPk, wotsSign}
-use Rattle.rfc8391.specs.Xmss.{otsAt, ltreeAt, messageDigest, ltree, authPath, rootFromPath, rootFromSig, leafOf, rootOf, publicKeyOf, signatureWith, signature_of, verify}
-use Rattle.rfc8391.specs.House.{secretValue}
+use Rattle.rfc8391.specs.Wots.{wots_pk, wots_sign}
+use Rattle.rfc8391.specs.Xmss.{ots_at, ltree_at, message_digest, ltree, auth_path, root_from_path, root_from_sig, leaf_of, root_of, public_key_of, signature_with, signature_of, verify}
+use Rattle.rfc8391.specs.House.{secret_value}
 use Rattle.rfc8391.specs.declared.Address.{Address}
-use Rattle.rfc8391.proofs.Values.{tab-values}
-use Rattle.rfc8391.proofs.Chains.{pk-values, signature-leads-to-key}
-use Rattle.rfc8391.proofs.Ltrees.{ltree-value}
-use Rattle.rfc8391.proofs.Trees.{node-value, path-leads-to-root}
+use Rattle.rfc8391.proofs.Values.{tab_values}
+use Rattle.rfc8391.proofs.Chains.{pk_values, signature_leads_to_key}
+use Rattle.rfc8391.proofs.Ltrees.{ltree_value}
+use Rattle.rfc8391.proofs.Trees.{node_value, path_leads_to_root}
 
 module _ (S : Suite) where
   -- our rule gives values
-  pub secret-value : (skSeed seed : List ℕ) (a : Address) → Value S.n (secretValue S skSeed seed a)
-  unfolding secretValue
-  secret-value skSeed seed a = S.PRF-value _ _
+  pub secret_value_lem : (sk_seed seed : List ℕ) (a : Address) → Value S.n (secret_value S sk_seed seed a)
+  unfolding secret_value
+  secret_value_lem sk_seed seed a = S.PRF_value _ _
 
-  pub digest-value : (r root : List ℕ) (i : ℕ) (m : List ℕ) → Value S.n (messageDigest S r root i m)
-  unfolding messageDigest
-  digest-value r root i m = S.Hmsg-value _ _
+  pub digest_value : (r root : List ℕ) (i : ℕ) (m : List ℕ) → Value S.n (message_digest S r root i m)
+  unfolding message_digest
+  digest_value r root i m = S.Hmsg_value _ _
 
   module _ (seed : List ℕ) (a : Address) (sk : ℕ → ℕ → List ℕ) where
     -- leaves, root and path are values where the secret values are
-    pub leaf-value : ((i c : ℕ) → Value S.n (sk i c)) → (i : ℕ) → Value S.n (leafOf S seed a sk i)
-    unfolding leafOf wotsPk
-    leaf-value h i = ltree-value S seed _ _ (rw length-tab (omega arith)) (pk-values S seed (otsAt a i) (sk i) (h i))
+    pub leaf_value : ((i c : ℕ) → Value S.n (sk i c)) → (i : ℕ) → Value S.n (leaf_of S seed a sk i)
+    unfolding leaf_of wots_pk
+    leaf_value h i = ltree_value S seed _ _ (rw length-tab (omega arith)) (pk_values S seed (ots_at a i) (sk i) (h i))
 
-    pub root-value : ((i c : ℕ) → Value S.n (sk i c)) → (h : ℕ) → Value S.n (rootOf S seed a sk h)
-    unfolding rootOf
-    root-value v h = node-value S seed a _ (leaf-value v) h 0
+    pub root_value : ((i c : ℕ) → Value S.n (sk i c)) → (h : ℕ) → Value S.n (root_of S seed a sk h)
+    unfolding root_of
+    root_value v h = node_value S seed a _ (leaf_value v) h 0
 
-    pub path-values : ((i c : ℕ) → Value S.n (sk i c)) → (h i : ℕ) → Values S.n (authPath S seed a (leafOf S seed a sk) h i)
-    unfolding authPath
-    path-values v h i = tab-values S.n h _ (λ k q. node-value S seed a _ (leaf-value v) k _)
+    pub path_values : ((i c : ℕ) → Value S.n (sk i c)) → (h i : ℕ) → Values S.n (auth_path S seed a (leaf_of S seed a sk) h i)
+    unfolding auth_path
+    path_values v h i = tab_values S.n h _ (λ k q. node_value S seed a _ (leaf_value v) k _)
 
     -- the root that is recomputed from an honest signature of any value is the tree's root
-    pub honest-root : (h i : ℕ) (m : List ℕ) → i < 2 ^ h
-        → rootFromSig S seed a h i (wotsSign S seed (otsAt a i) m (sk i)) (authPath S seed a (leafOf S seed a sk) h i) m ≡ rootOf S seed a sk h
-    unfolding rootFromSig rootOf leafOf
-    honest-root h i m q =
-        ap (λ (pk : List (List ℕ)). rootFromPath S seed a h i (ltree S seed (ltreeAt a i) pk) (authPath S seed a (leafOf S seed a sk) h i))
-        (signature-leads-to-key S seed (otsAt a i) m (sk i))
-        ∙ path-leads-to-root S seed a (leafOf S seed a sk) h i q
+    pub honest_root : (h i : ℕ) (m : List ℕ) → i < 2 ^ h
+        → root_from_sig S seed a h i (wots_sign S seed (ots_at a i) m (sk i)) (auth_path S seed a (leaf_of S seed a sk) h i) m ≡ root_of S seed a sk h
+    unfolding root_from_sig root_of leaf_of
+    honest_root h i m q =
+        ap (λ (pk : List (List ℕ)). root_from_path S seed a h i (ltree S seed (ltree_at a i) pk) (auth_path S seed a (leaf_of S seed a sk) h i))
+        (signature_leads_to_key S seed (ots_at a i) m (sk i))
+        ∙ path_leads_to_root S seed a (leaf_of S seed a sk) h i q
 
     -- and so an honest signature of any message verifies
-    pub honest-verifies : (t h i : ℕ) (skPrf m : List ℕ) → i < 2 ^ h
-        → verify S a h (publicKeyOf S seed t a sk h) m (signature_of S seed a sk skPrf h i m)
-    unfolding verify publicKeyOf signatureWith signature_of
-    honest-verifies t h i skPrf m q = honest-root h i _ q
+    pub honest_verifies : (t h i : ℕ) (sk_prf m : List ℕ) → i < 2 ^ h
+        → verify S a h (public_key_of S seed t a sk h) m (signature_of S seed a sk sk_prf h i m)
+    unfolding verify public_key_of signature_with signature_of
+    honest_verifies t h i sk_prf m q = honest_root h i _ q

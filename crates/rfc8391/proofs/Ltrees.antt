@@ -9,80 +9,80 @@ use lib.Dec.{ltb}
 use lib.ListN.{length, get_or}
 use Rattle.lists.specs.Lists.{tab, turns, pick}
 use Rattle.lists.proofs.Tabs.{length-tab}
-use Rattle.lists.proofs.Turns.{turns-add}
+use Rattle.lists.proofs.Turns.{turns_add}
 use Rattle.rfc8391.specs.Suite.{Suite, Value, Values}
-use Rattle.rfc8391.specs.Address.{setTreeHeight, setTreeIndex}
-use Rattle.rfc8391.specs.Xmss.{randHash, ltreeNode, ltreeRound, ltree}
+use Rattle.rfc8391.specs.Address.{set_tree_height, set_tree_index}
+use Rattle.rfc8391.specs.Xmss.{rand_hash, ltree_node, ltree_round, ltree}
 use Rattle.rfc8391.specs.declared.Address.{Address}
-use Rattle.rfc8391.proofs.Values.{tab-values}
+use Rattle.rfc8391.proofs.Values.{tab_values}
 
 module _ (S : Suite) (seed : List ℕ) where
   -- a join gives a value
-  pub join-value : (a : Address) (l r : List ℕ) → Value S.n (randHash S seed a l r)
-  unfolding randHash
-  join-value a l r = S.H-value _ _
+  pub join_value : (a : Address) (l r : List ℕ) → Value S.n (rand_hash S seed a l r)
+  unfolding rand_hash
+  join_value a l r = S.H_value _ _
 
   -- a pair is joined, and a value with no right neighbour moves up
-  pub node-of-pair : (a : Address) (h : ℕ) (l : List (List ℕ)) (i : ℕ) → 2 * i + 1 < length l
-      → ltreeNode S seed a h l i ≡ randHash S seed (setTreeIndex (setTreeHeight a h) i) (get_or l (2 * i) []) (get_or l (2 * i + 1) [])
-  unfolding ltreeNode
-  node-of-pair a h l i q = rw (ltreeNode, lt-ltb _ _ q)
+  pub node_of_pair : (a : Address) (h : ℕ) (l : List (List ℕ)) (i : ℕ) → 2 * i + 1 < length l
+      → ltree_node S seed a h l i ≡ rand_hash S seed (set_tree_index (set_tree_height a h) i) (get_or l (2 * i) []) (get_or l (2 * i + 1) [])
+  unfolding ltree_node
+  node_of_pair a h l i q = rw (ltree_node, lt-ltb _ _ q)
 
-  pub node-of-last : (a : Address) (h : ℕ) (l : List (List ℕ)) (i : ℕ) → length l ≤ 2 * i + 1 → ltreeNode S seed a h l i ≡ get_or l (2 * i) []
-  unfolding ltreeNode
-  node-of-last a h l i q = rw (ltreeNode, le-ltb _ _ q)
+  pub node_of_last : (a : Address) (h : ℕ) (l : List (List ℕ)) (i : ℕ) → length l ≤ 2 * i + 1 → ltree_node S seed a h l i ≡ get_or l (2 * i) []
+  unfolding ltree_node
+  node_of_last a h l i q = rw (ltree_node, le-ltb _ _ q)
 
   -- a round leaves half of the values, rounded up
-  pub length-round : (a : Address) (h : ℕ) (l : List (List ℕ)) → length (ltreeRound S seed a h l) ≡ (length l + 1) / 2
-  unfolding ltreeRound
+  pub length-round : (a : Address) (h : ℕ) (l : List (List ℕ)) → length (ltree_round S seed a h l) ≡ (length l + 1) / 2
+  unfolding ltree_round
   length-round a h l = length-tab ((length l + 1) / 2) _
 
   -- a round leaves a single value as it is
-  round-single : (a : Address) (h : ℕ) (l : List (List ℕ)) → length l ≡ 1 → ltreeRound S seed a h l ≡ l
-  unfolding ltreeNode ltreeRound tab
-  round-single a h [] e = absurd (omega arith)
-  round-single a h (x ∷ []) e = refl
-  round-single a h (x ∷ y ∷ l) e = absurd (omega arith)
+  round_single : (a : Address) (h : ℕ) (l : List (List ℕ)) → length l ≡ 1 → ltree_round S seed a h l ≡ l
+  unfolding ltree_node ltree_round tab
+  round_single a h [] e = absurd (omega arith)
+  round_single a h (x ∷ []) e = refl
+  round_single a h (x ∷ y ∷ l) e = absurd (omega arith)
 
   -- and so do any number of rounds
-  rounds-single : (a : Address) (n k : ℕ) (l : List (List ℕ)) → length l ≡ 1 → turns n (λ h v. ltreeRound S seed a (k + h) v) l ≡ l
+  rounds_single : (a : Address) (n k : ℕ) (l : List (List ℕ)) → length l ≡ 1 → turns n (λ h v. ltree_round S seed a (k + h) v) l ≡ l
   unfolding turns
-  rounds-single a zero k l e = refl
-  rounds-single a (suc n) k l e = ap (ltreeRound S seed a (k + n)) (rounds-single a n k l e) ∙ round-single a (k + n) l e
+  rounds_single a zero k l e = refl
+  rounds_single a (suc n) k l e = ap (ltree_round S seed a (k + n)) (rounds_single a n k l e) ∙ round_single a (k + n) l e
 
   -- once k rounds have left one value, the L-tree is done
-  pub ltree-done : (a : Address) (k : ℕ) (l : List (List ℕ)) → k ≤ length l → length (turns k (λ h v. ltreeRound S seed a h v) l) ≡ 1
-      → ltree S seed a l ≡ get_or (turns k (λ h v. ltreeRound S seed a h v) l) 0 []
+  pub ltree_done : (a : Address) (k : ℕ) (l : List (List ℕ)) → k ≤ length l → length (turns k (λ h v. ltree_round S seed a h v) l) ≡ 1
+      → ltree S seed a l ≡ get_or (turns k (λ h v. ltree_round S seed a h v) l) 0 []
   unfolding ltree
-  ltree-done a k l h e =
+  ltree_done a k l h e =
       let n : k + (length l - k) ≡ length l = omega arith in
       ap (λ (t : List (List ℕ)). get_or t 0 [])
-      (ap (λ (j : ℕ). turns j (λ h v. ltreeRound S seed a h v) l) (sym n)
-      ∙ sym (turns-add k (length l - k) (λ h v. ltreeRound S seed a h v) l)
-      ∙ rounds-single a (length l - k) k _ e)
+      (ap (λ (j : ℕ). turns j (λ h v. ltree_round S seed a h v) l) (sym n)
+      ∙ sym (turns_add k (length l - k) (λ h v. ltree_round S seed a h v) l)
+      ∙ rounds_single a (length l - k) k _ e)
 
   -- a round of values gives values, and so do n rounds
-  round-values : (a : Address) (h : ℕ) (l : List (List ℕ)) → Values S.n l → Values S.n (ltreeRound S seed a h l)
-  unfolding ltreeNode ltreeRound Values
-  round-values a h l v =
-      tab-values S.n _ _ (λ i q. by-test (ltb (2 * i + 1) (length l)) (join-value _ _ _) (v (2 * i) (omega arith)))
+  round_values : (a : Address) (h : ℕ) (l : List (List ℕ)) → Values S.n l → Values S.n (ltree_round S seed a h l)
+  unfolding ltree_node ltree_round Values
+  round_values a h l v =
+      tab_values S.n _ _ (λ i q. by_test (ltb (2 * i + 1) (length l)) (join_value _ _ _) (v (2 * i) (omega arith)))
     where
-      by-test : {x y : List ℕ} (t : Bool) → Value S.n x → Value S.n y → Value S.n (pick t x y)
-      by-test true p q = p
-      by-test false p q = q
+      by_test : {x y : List ℕ} (t : Bool) → Value S.n x → Value S.n y → Value S.n (pick t x y)
+      by_test true p q = p
+      by_test false p q = q
 
-  rounds-values : (a : Address) (n : ℕ) (l : List (List ℕ)) → Values S.n l → Values S.n (turns n (λ h v. ltreeRound S seed a h v) l)
+  rounds_values : (a : Address) (n : ℕ) (l : List (List ℕ)) → Values S.n l → Values S.n (turns n (λ h v. ltree_round S seed a h v) l)
   unfolding turns
-  rounds-values a zero l v = v
-  rounds-values a (suc n) l v = round-values a n _ (rounds-values a n l v)
+  rounds_values a zero l v = v
+  rounds_values a (suc n) l v = round_values a n _ (rounds_values a n l v)
 
   -- some value is left after each round
-  rounds-positive : (a : Address) (n : ℕ) (l : List (List ℕ)) → 0 < length l → 0 < length (turns n (λ h v. ltreeRound S seed a h v) l)
+  rounds_positive : (a : Address) (n : ℕ) (l : List (List ℕ)) → 0 < length l → 0 < length (turns n (λ h v. ltree_round S seed a h v) l)
   unfolding turns
-  rounds-positive a zero l p = p
-  rounds-positive a (suc n) l p = let ih = rounds-positive a n l p in rw length-round (omega arith)
+  rounds_positive a zero l p = p
+  rounds_positive a (suc n) l p = let ih = rounds_positive a n l p in rw length-round (omega arith)
 
   -- the L-tree of values is a value
-  pub ltree-value : (a : Address) (l : List (List ℕ)) → 0 < length l → Values S.n l → Value S.n (ltree S seed a l)
+  pub ltree_value : (a : Address) (l : List (List ℕ)) → 0 < length l → Values S.n l → Value S.n (ltree S seed a l)
   unfolding ltree Values
-  ltree-value a l p v = rounds-values a (length l) l v 0 (rounds-positive a (length l) l p)
+  ltree_value a l p v = rounds_values a (length l) l v 0 (rounds_positive a (length l) l p)

@@ -8,85 +8,85 @@ use native.Mathlib.Omega.{arith}
 use borrow.Author.Tests.{eq-eqb, ne_eqb}
 use lib.Bits.{differ, bit_xor, xor_step, xor_zero_r}
 use Rattle.lists.specs.Lists.{turns}
-use Rattle.lists.proofs.Tabs.{getD-tab}
+use Rattle.lists.proofs.Tabs.{get_or-tab}
 use Rattle.rfc8391.specs.Suite.{Suite, Value}
-use Rattle.rfc8391.specs.Xmss.{treeAt, sibling, randHash, node, authPath, climb, rootFromPath}
+use Rattle.rfc8391.specs.Xmss.{tree_at, sibling, rand_hash, node, auth_path, climb, root_from_path}
 use Rattle.rfc8391.specs.declared.Address.{Address}
-use Rattle.rfc8391.proofs.Ltrees.{join-value}
+use Rattle.rfc8391.proofs.Ltrees.{join_value}
 
 -- the next ancestor's position is half of this one's
-pub half-position : (i k : ℕ) → i / 2 ^ k / 2 ≡ i / 2 ^ suc k
-half-position i k = div-div-eq-div-mul i (2 ^ k) 2 ∙ ap (λ (x : ℕ). i / x) (sym (pow-suc 2 k))
+pub half_position : (i k : ℕ) → i / 2 ^ k / 2 ≡ i / 2 ^ suc k
+half_position i k = div-div-eq-div-mul i (2 ^ k) 2 ∙ ap (λ (x : ℕ). i / x) (sym (pow-suc 2 k))
 
 -- the sibling stands behind an even position, and before an odd one
-odd-differs : (r : ℕ) → r < 2 → differ r 1 ≡ 1 - r
-odd-differs zero h = refl
-odd-differs (suc zero) h = refl
-odd-differs (suc (suc r)) h = absurd (omega arith)
+odd_differs : (r : ℕ) → r < 2 → differ r 1 ≡ 1 - r
+odd_differs zero h = refl
+odd_differs (suc zero) h = refl
+odd_differs (suc (suc r)) h = absurd (omega arith)
 
-xor-one : (p : ℕ) → bit_xor p 1 ≡ p / 2 * 2 + (1 - p % 2)
-xor-one p = xor_step p 1 ∙ rw xor_zero_r (ap (λ (d : ℕ). p / 2 * 2 + d) (odd-differs (p % 2) (omega arith)))
+xor_one : (p : ℕ) → bit_xor p 1 ≡ p / 2 * 2 + (1 - p % 2)
+xor_one p = xor_step p 1 ∙ rw xor_zero_r (ap (λ (d : ℕ). p / 2 * 2 + d) (odd_differs (p % 2) (omega arith)))
 
-pub sibling-of-left : (p : ℕ) → p % 2 ≡ 0 → sibling p ≡ p + 1
+pub sibling_of_left : (p : ℕ) → p % 2 ≡ 0 → sibling p ≡ p + 1
 unfolding sibling
-sibling-of-left p e = xor-one p ∙ omega arith
+sibling_of_left p e = xor_one p ∙ omega arith
 
-pub sibling-of-right : (p : ℕ) → (p % 2 ≡ 0 → ⊥) → sibling p ≡ p - 1
+pub sibling_of_right : (p : ℕ) → (p % 2 ≡ 0 → ⊥) → sibling p ≡ p - 1
 unfolding sibling
-sibling-of-right p e = xor-one p ∙ omega arith
+sibling_of_right p e = xor_one p ∙ omega arith
 
 module _ (S : Suite) (seed : List ℕ) (a : Address) where
   -- a climb from a left node, and from a right one
-  pub climb-left : (k p : ℕ) (v x : List ℕ) → p % 2 ≡ 0 → climb S seed a k p v x ≡ randHash S seed (treeAt a k (p / 2)) v x
+  pub climb_left : (k p : ℕ) (v x : List ℕ) → p % 2 ≡ 0 → climb S seed a k p v x ≡ rand_hash S seed (tree_at a k (p / 2)) v x
   unfolding climb
-  climb-left k p v x e = rw (climb, eq-eqb _ 0 e)
+  climb_left k p v x e = rw (climb, eq-eqb _ 0 e)
 
-  pub climb-right : (k p : ℕ) (v x : List ℕ) → (p % 2 ≡ 0 → ⊥) → climb S seed a k p v x ≡ randHash S seed (treeAt a k (p / 2)) x v
+  pub climb_right : (k p : ℕ) (v x : List ℕ) → (p % 2 ≡ 0 → ⊥) → climb S seed a k p v x ≡ rand_hash S seed (tree_at a k (p / 2)) x v
   unfolding climb
-  climb-right k p v x e = rw (climb, ne_eqb _ 0 e)
+  climb_right k p v x e = rw (climb, ne_eqb _ 0 e)
 
   module _ (leaf : ℕ → List ℕ) where
     -- the nodes are values where the leaves are
-    pub node-value : ((i : ℕ) → Value S.n (leaf i)) → (k p : ℕ) → Value S.n (node S seed a leaf k p)
+    pub node_value : ((i : ℕ) → Value S.n (leaf i)) → (k p : ℕ) → Value S.n (node S seed a leaf k p)
     unfolding node
-    node-value h zero p = h p
-    node-value h (suc k) p = join-value S seed _ _ _
+    node_value h zero p = h p
+    node_value h (suc k) p = join_value S seed _ _ _
 
     -- a node by its height: a leaf, or a join
-    pub node-leaf : (h p : ℕ) (v : List ℕ) → h ≡ 0 → v ≡ leaf p → v ≡ node S seed a leaf h p
+    pub node_leaf : (h p : ℕ) (v : List ℕ) → h ≡ 0 → v ≡ leaf p → v ≡ node S seed a leaf h p
     unfolding node
-    node-leaf h p v e q = rw e q
+    node_leaf h p v e q = rw e q
 
-    pub node-join : (h k p : ℕ) (l r v : List ℕ) → h ≡ suc k → l ≡ node S seed a leaf k (2 * p) → r ≡ node S seed a leaf k (2 * p + 1)
-        → v ≡ randHash S seed (treeAt a k p) l r → v ≡ node S seed a leaf h p
+    pub node_join : (h k p : ℕ) (l r v : List ℕ) → h ≡ suc k → l ≡ node S seed a leaf k (2 * p) → r ≡ node S seed a leaf k (2 * p + 1)
+        → v ≡ rand_hash S seed (tree_at a k p) l r → v ≡ node S seed a leaf h p
     unfolding node
-    node-join h k p l r v e el er ev = rw (e, ev, el, er)
+    node_join h k p l r v e el er ev = rw (e, ev, el, er)
 
     -- a node and its sibling lead to the node above
-    climb-to-parent : (k p : ℕ) → climb S seed a k p (node S seed a leaf k p) (node S seed a leaf k (sibling p)) ≡ node S seed a leaf (suc k) (p / 2)
+    climb_to_parent : (k p : ℕ) → climb S seed a k p (node S seed a leaf k p) (node S seed a leaf k (sibling p)) ≡ node S seed a leaf (suc k) (p / 2)
     unfolding node
-    climb-to-parent k p =
+    climb_to_parent k p =
         ⊎_elim
         (λ (z : p % 2 ≡ 0).
         let l : p ≡ 2 * (p / 2) = omega arith in
-        let r : sibling p ≡ 2 * (p / 2) + 1 = sibling-of-left p z ∙ omega arith in
-        climb-left k p _ _ z ∙ ap₂ (λ (x y : ℕ). randHash S seed (treeAt a k (p / 2)) (node S seed a leaf k x) (node S seed a leaf k y)) l r)
+        let r : sibling p ≡ 2 * (p / 2) + 1 = sibling_of_left p z ∙ omega arith in
+        climb_left k p _ _ z ∙ ap₂ (λ (x y : ℕ). rand_hash S seed (tree_at a k (p / 2)) (node S seed a leaf k x) (node S seed a leaf k y)) l r)
         (λ (z : 0 < p % 2).
-        let l : sibling p ≡ 2 * (p / 2) = sibling-of-right p (λ n. omega arith) ∙ omega arith in
+        let l : sibling p ≡ 2 * (p / 2) = sibling_of_right p (λ n. omega arith) ∙ omega arith in
         let r : p ≡ 2 * (p / 2) + 1 = omega arith in
-        climb-right k p _ _ (λ n. omega arith) ∙ ap₂ (λ (x y : ℕ). randHash S seed (treeAt a k (p / 2)) (node S seed a leaf k x) (node S seed a leaf k y)) l r)
+        climb_right k p _ _ (λ n. omega arith) ∙ ap₂ (λ (x y : ℕ). rand_hash S seed (tree_at a k (p / 2)) (node S seed a leaf k x) (node S seed a leaf k y)) l r)
         (eq-zero-or-pos (p % 2))
 
     -- the honest path leads from a leaf to its ancestor at any height
-    path-leads-up : (h i k : ℕ) → k ≤ h
-        → rootFromPath S seed a k i (leaf i) (authPath S seed a leaf h i) ≡ node S seed a leaf k (i / 2 ^ k)
-    unfolding rootFromPath turns node authPath
-    path-leads-up h i zero q = ap leaf (sym (div-one i))
-    path-leads-up h i (suc k) q =
-        ap₂ (climb S seed a k (i / 2 ^ k)) (path-leads-up h i k (omega arith)) (getD-tab h _ [] k q)
-        ∙ climb-to-parent k (i / 2 ^ k)
-        ∙ ap (node S seed a leaf (suc k)) (half-position i k)
+    path_leads_up : (h i k : ℕ) → k ≤ h
+        → root_from_path S seed a k i (leaf i) (auth_path S seed a leaf h i) ≡ node S seed a leaf k (i / 2 ^ k)
+    unfolding root_from_path turns node auth_path
+    path_leads_up h i zero q = ap leaf (sym (div-one i))
+    path_leads_up h i (suc k) q =
+        ap₂ (climb S seed a k (i / 2 ^ k)) (path_leads_up h i k (omega arith)) (get_or-tab h _ [] k q)
+        ∙ climb_to_parent k (i / 2 ^ k)
+        ∙ ap (node S seed a leaf (suc k)) (half_position i k)
 
     -- and so to the root
-    pub path-leads-to-root : (h i : ℕ) → i < 2 ^ h → rootFromPath S seed a h i (leaf i) (authPath S seed a leaf h i) ≡ node S seed a leaf h 0
-    path-leads-to-root h i q = path-leads-up h i h (le_refl h) ∙ ap (node S seed a leaf h) (div-eq_of_lt q)
+    pub path_leads_to_root : (h i : ℕ) → i < 2 ^ h → root_from_path S seed a h i (leaf i) (auth_path S seed a leaf h i) ≡ node S seed a leaf h 0
+    path_leads_to_root h i q = path_leads_up h i h (le_refl h) ∙ ap (node S seed a leaf h) (div-eq_of_lt q)

@@ -7,31 +7,31 @@ use Rattle.lists.specs.Lists.{tab}
 use lib.Bits.{bit_xor}
 use lib.ListN.{length, take, drop, length-drop}
 use lib.Seq.{take_all, get_or-take, length-take-le}
-use Rattle.lists.proofs.Tabs.{length-tab, getD-tab, tab-ext, take-tab}
+use Rattle.lists.proofs.Tabs.{length-tab, get_or-tab, tab_ext, take-tab}
 use Rattle.rfc8391.specs.Suite.{Value, Values, xor}
 
 -- a list by a rule that gives values
-pub tab-values : (n k : ℕ) (f : ℕ → List ℕ) → ((i : ℕ) → i < k → Value n (f i)) → Values n (tab k f)
+pub tab_values : (n k : ℕ) (f : ℕ → List ℕ) → ((i : ℕ) → i < k → Value n (f i)) → Values n (tab k f)
 unfolding Values
-tab-values n k f h i q =
+tab_values n k f h i q =
     let l : i < k = omega (arith, length-tab k f) in
-    rw (getD-tab k f [] i l) (h i l)
+    rw (get_or-tab k f [] i l) (h i l)
 
 -- of an exclusive or over more bytes, the first n: that of the first n of either
-pub xor-front : (n w : ℕ) (x y : List ℕ) → n ≤ w → take n (xor w x y) ≡ xor n (take n x) (take n y)
+pub xor_front : (n w : ℕ) (x y : List ℕ) → n ≤ w → take n (xor w x y) ≡ xor n (take n x) (take n y)
 unfolding xor
-xor-front n w x y h =
-    take-tab n w _ h ∙ tab-ext n _ _ (λ k q. ap₂ bit_xor (sym (get_or-take n x k 0 q)) (sym (get_or-take n y k 0 q)))
+xor_front n w x y h =
+    take-tab n w _ h ∙ tab_ext n _ _ (λ k q. ap₂ bit_xor (sym (get_or-take n x k 0 q)) (sym (get_or-take n y k 0 q)))
 
 -- a value that was read from its place: w is how the code has its length
-pub value-at : (n w at : ℕ) (l v : List ℕ) → w ≡ n → at + w ≤ length l
+pub value_at : (n w at : ℕ) (l v : List ℕ) → w ≡ n → at + w ≤ length l
     → take (length (take (at + w - at) (drop at l))) v ≡ take (at + w - at) (drop at l) → take n v ≡ take n (drop at l)
-value-at n w at l v e h q =
+value_at n w at l v e h q =
     let z : at + w - at ≡ w = omega arith in
     let k : length (take w (drop at l)) ≡ w = length-take-le w (drop at l) (rw length-drop (omega arith)) in
     rw (z, k, e) at q
 
 -- and one that fills what it was read into
-pub whole-at : (n at : ℕ) (l v : List ℕ) → at + n ≤ length l → length v ≡ n
+pub whole_at : (n at : ℕ) (l v : List ℕ) → at + n ≤ length l → length v ≡ n
     → take (length (take (at + n - at) (drop at l))) v ≡ take (at + n - at) (drop at l) → v ≡ take n (drop at l)
-whole-at n at l v h k q = sym (take_all n v (omega arith)) ∙ value-at n n at l v refl h q
+whole_at n at l v h k q = sym (take_all n v (omega arith)) ∙ value_at n n at l v refl h q

@@ -3,15 +3,15 @@
 use Rattle.std.specs.Prelude.{List, ℕ}
 use Rattle.lists.specs.Bytes.{to_byte}
 use Rattle.rfc8391.specs.Suite.{Suite}
-use Rattle.rfc8391.specs.Address.{setChainAddress}
-use Rattle.rfc8391.specs.Xmss.{otsAt}
+use Rattle.rfc8391.specs.Address.{set_chain_address}
+use Rattle.rfc8391.specs.Xmss.{ots_at}
 use Rattle.rfc8391.specs.declared.Address.{Address}
 
 module _ (S : Suite) where
   -- of the secret seed, the public seed (which this rule does not use) and a chain's one-time address
-  unfoldable pub secretValue : List ℕ → List ℕ → Address → List ℕ
-  secretValue skSeed seed a = S.PRF (S.PRF skSeed (to_byte a.w4 32)) (to_byte a.w5 32)
+  unfoldable pub secret_value : List ℕ → List ℕ → Address → List ℕ
+  secret_value sk_seed seed a = S.PRF (S.PRF sk_seed (to_byte a.w4 32)) (to_byte a.w5 32)
 
   -- the secret value of chain c at leaf i
   unfoldable pub secrets : List ℕ → List ℕ → Address → ℕ → ℕ → List ℕ
-  secrets skSeed seed a i c = secretValue skSeed seed (setChainAddress (otsAt a i) c)
+  secrets sk_seed seed a i c = secret_value sk_seed seed (set_chain_address (ots_at a i) c)

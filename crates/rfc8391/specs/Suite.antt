@@ -22,10 +22,10 @@ pub record Suite : Type 0 where
   pub Hmsg : List ℕ → List ℕ → List ℕ
   pub PRF : List ℕ → List ℕ → List ℕ
   -- and each gives a value
-  pub F-value : (k m : List ℕ) → Value n (F k m)
-  pub H-value : (k m : List ℕ) → Value n (H k m)
-  pub Hmsg-value : (k m : List ℕ) → Value n (Hmsg k m)
-  pub PRF-value : (k m : List ℕ) → Value n (PRF k m)
+  pub F_value : (k m : List ℕ) → Value n (F k m)
+  pub H_value : (k m : List ℕ) → Value n (H k m)
+  pub Hmsg_value : (k m : List ℕ) → Value n (Hmsg k m)
+  pub PRF_value : (k m : List ℕ) → Value n (PRF k m)
 
 -- the exclusive or of two values of n bytes, byte by byte
 unfoldable pub xor : ℕ → List ℕ → List ℕ → List ℕ

@@ -3,7 +3,7 @@ use Rattle.std.specs.Prelude.{List, [], ◌∷◌, ◌++◌, ℕ, ◌+◌, ◌-�
 use Rattle.lists.specs.Lists.{tab, turns}
 use Rattle.lists.specs.Bytes.{to_byte}
 use Rattle.rfc8391.specs.Suite.{Suite, xor}
-use Rattle.rfc8391.specs.Address.{setChainAddress, setHashAddress, setKeyAndMask, addressBytes}
+use Rattle.rfc8391.specs.Address.{set_chain_address, set_hash_address, set_key_and_mask, address_bytes}
 use Rattle.rfc8391.specs.declared.Address.{Address}
 
 -- 2.6, Algorithm 1: the first k digits of the bytes x, two a byte, the high half first
@@ -32,27 +32,27 @@ module _ (S : Suite) where
   len = 2 * S.n + 3
 
   -- every key and mask: PRF of the public seed over an address
-  abbrev pub prfAt : List ℕ → Address → List ℕ
-  prfAt seed a = S.PRF seed (addressBytes a)
+  abbrev pub prf_at : List ℕ → Address → List ℕ
+  prf_at seed a = S.PRF seed (address_bytes a)
 
   module _ (seed : List ℕ) where
     -- 3.1.2, Algorithm 2: one step of a chain, at position j; and s steps from position i on, where i + s is at most 15
     unfoldable pub step : Address → ℕ → List ℕ → List ℕ
     step a j x =
-        S.F (prfAt seed (setKeyAndMask (setHashAddress a j) 0)) (xor S.n x (prfAt seed (setKeyAndMask (setHashAddress a j) 1)))
+        S.F (prf_at seed (set_key_and_mask (set_hash_address a j) 0)) (xor S.n x (prf_at seed (set_key_and_mask (set_hash_address a j) 1)))
 
     unfoldable pub chain : Address → List ℕ → ℕ → ℕ → List ℕ
     chain a x i s = turns s (λ k v. step a (i + k) v) x
 
     -- 3.1.4, Algorithm 4: the public key of the secret values sk
-    unfoldable pub wotsPk : Address → (ℕ → List ℕ) → List (List ℕ)
-    wotsPk a sk = tab len (λ c. chain (setChainAddress a c) (sk c) 0 15)
+    unfoldable pub wots_pk : Address → (ℕ → List ℕ) → List (List ℕ)
+    wots_pk a sk = tab len (λ c. chain (set_chain_address a c) (sk c) 0 15)
 
     -- 3.1.5, Algorithm 5: the signature of a value m
-    unfoldable pub wotsSign : Address → List ℕ → (ℕ → List ℕ) → List (List ℕ)
-    wotsSign a m sk = tab len (λ c. chain (setChainAddress a c) (sk c) 0 (get_or (digits len₁ m) c 0))
+    unfoldable pub wots_sign : Address → List ℕ → (ℕ → List ℕ) → List (List ℕ)
+    wots_sign a m sk = tab len (λ c. chain (set_chain_address a c) (sk c) 0 (get_or (digits len₁ m) c 0))
 
     -- 3.1.6, Algorithm 6: the public key from the signature of a value m
-    unfoldable pub wotsPkFromSig : Address → List ℕ → List (List ℕ) → List (List ℕ)
-    wotsPkFromSig a m sig =
-        tab len (λ c. chain (setChainAddress a c) (get_or sig c []) (get_or (digits len₁ m) c 0) (15 - get_or (digits len₁ m) c 0))
+    unfoldable pub wots_pk_from_sig : Address → List ℕ → List (List ℕ) → List (List ℕ)
+    wots_pk_from_sig a m sig =
+        tab len (λ c. chain (set_chain_address a c) (get_or sig c []) (get_or (digits len₁ m) c 0) (15 - get_or (digits len₁ m) c 0))

@@ -4,9 +4,9 @@
 ghost use Rattle.std.specs.Prelude.{◌≡◌, ◌≤◌, length, take};
 ghost use Rattle.lists.specs.Bytes.{to_byte};
 ghost use Rattle.rfc8391.specs.Suite.{xor};
-ghost use Rattle.rfc8391.specs.Address.{setType, setOTSAddress, setChainAddress, setHashAddress, setLTreeAddress, setTreeHeight, setTreeIndex, setKeyAndMask, addressBytes};
-ghost use Rattle.rfc8391.specs.Xmss.{otsAt, ltreeAt, treeAt};
-ghost use Rattle.rfc8391.specs.Formats.{keyType, singleTree};
+ghost use Rattle.rfc8391.specs.Address.{set_type, set_ots_address, set_chain_address, set_hash_address, set_ltree_address, set_tree_height, set_tree_index, set_key_and_mask, address_bytes};
+ghost use Rattle.rfc8391.specs.Xmss.{ots_at, ltree_at, tree_at};
+ghost use Rattle.rfc8391.specs.Formats.{key_type, single_tree};
 
 // Eight words. What w4, w5 and w6 mean is the type's to say, so that they have two names each below.
 #[derive(Drop)]
@@ -24,7 +24,7 @@ pub struct Address {
 impl Address {
     // Of the one tree of XMSS: layer 0, tree 0.
     pub fn single_tree() -> Self
-        ensures { result ≡ singleTree }
+        ensures { result ≡ single_tree }
     {
         Self {
             layer: 0,
@@ -40,7 +40,7 @@ impl Address {
 
     // A word that is left from another type would change every key and mask below.
     pub fn set_type(self, x: u32) -> Self
-        ensures { result ≡ setType self x }
+        ensures { result ≡ set_type self x }
     {
         Self {
             layer: self.layer,
@@ -55,46 +55,46 @@ impl Address {
     }
 
     pub fn set_ots_address(mut self, x: u32) -> Self
-        ensures { result ≡ setOTSAddress self x }
+        ensures { result ≡ set_ots_address self x }
     {
         self.w4 = x;
         self
     }
 
     pub fn set_chain_address(mut self, x: u32) -> Self
-        ensures { result ≡ setChainAddress self x }
+        ensures { result ≡ set_chain_address self x }
     {
         self.w5 = x;
         self
     }
 
     pub fn set_hash_address(mut self, x: u32) -> Self
-        ensures { result ≡ setHashAddress self x }
+        ensures { result ≡ set_hash_address self x }
     {
         self.w6 = x;
         self
     }
 
     pub fn set_ltree_address(self, x: u32) -> Self
-        ensures { result ≡ setLTreeAddress self x }
+        ensures { result ≡ set_ltree_address self x }
     {
         self.set_ots_address(x)
     }
 
     pub fn set_tree_height(self, x: u32) -> Self
-        ensures { result ≡ setTreeHeight self x }
+        ensures { result ≡ set_tree_height self x }
     {
         self.set_chain_address(x)
     }
 
     pub fn set_tree_index(self, x: u32) -> Self
-        ensures { result ≡ setTreeIndex self x }
+        ensures { result ≡ set_tree_index self x }
     {
         self.set_hash_address(x)
     }
 
     pub fn set_key_and_mask(mut self, x: u32) -> Self
-        ensures { result ≡ setKeyAndMask self x }
+        ensures { result ≡ set_key_and_mask self x }
     {
         self.w7 = x;
         self
@@ -102,21 +102,21 @@ impl Address {
 
     // The chains of a leaf.
     pub fn ots_at(self, leaf: u32) -> Self
-        ensures { result ≡ otsAt self leaf }
+        ensures { result ≡ ots_at self leaf }
     {
         self.set_type(0).set_ots_address(leaf)
     }
 
     // The L-tree of a leaf.
     pub fn ltree_at(self, leaf: u32) -> Self
-        ensures { result ≡ ltreeAt self leaf }
+        ensures { result ≡ ltree_at self leaf }
     {
         self.set_type(1).set_ltree_address(leaf)
     }
 
     // The join of two nodes of a height into the one at a position above them.
     pub fn tree_at(self, height: u32, position: u32) -> Self
-        ensures { result ≡ treeAt self height position }
+        ensures { result ≡ tree_at self height position }
     {
         self.set_type(2)
             .set_tree_height(height)
@@ -124,7 +124,7 @@ impl Address {
     }
 
     pub fn encode(self) -> [u8; 32]
-        ensures { result ≡ addressBytes self }
+        ensures { result ≡ address_bytes self }
     {
         lists::eight_words(
             self.layer,
@@ -157,7 +157,7 @@ pub enum KeyType {
 }
 
 pub fn key_type(number: u32) -> KeyType
-    ensures { result ≡ keyType number }
+    ensures { result ≡ key_type number }
 {
     match number {
         1 => KeyType::Served {

@@ -8,22 +8,22 @@ use lib.ListN.{get_or, replicate}
 use Rattle.lists.specs.Bytes.{to_byte, number}
 use Rattle.lists.specs.Lists.{tab, turns, parts}
 use Rattle.outcomes.specs.Outcome.{unless}
-use Rattle.outcomes.proofs.Outcomes.{outcome-none}
+use Rattle.outcomes.proofs.Outcomes.{outcome_none}
 use Rattle.rfc8391.specs.Suite.{Suite, xor}
-use Rattle.rfc8391.specs.Wots.{base_w, checksum, digits, step, chain, wotsPkFromSig}
-use Rattle.rfc8391.specs.Xmss.{messageDigest, randHash, ltreeNode, ltreeRound, ltree, climb, rootFromPath, rootFromSig, verify}
-use Rattle.rfc8391.specs.Formats.{valueLength, keyLength, keyFrom, valuesStart, pathStart, signatureLength, signatureFrom, keyType, heightOf}
+use Rattle.rfc8391.specs.Wots.{base_w, checksum, digits, step, chain, wots_pk_from_sig}
+use Rattle.rfc8391.specs.Xmss.{message_digest, rand_hash, ltree_node, ltree_round, ltree, climb, root_from_path, root_from_sig, verify}
+use Rattle.rfc8391.specs.Formats.{value_length, key_length, key_from, values_start, path_start, signature_length, signature_from, key_type, height_of}
 use Rattle.rfc8391.specs.declared.Hash.{Hash}
 use Rattle.rfc8391.specs.declared.Hash.TheVariants.{Sha2}
 use Rattle.promises.specs.Checking.{KeyFits, TypeUnknown, SignatureFits, MessageFits, IndexFits, RootAgrees, Accepted}
 use Rattle.promises.proofs.Checking.{numbers, accepted}
 use Rattle.shams.specs.ToyValues.{zeros, right_half}
 use Rattle.shams.specs.Toy.{toy, toys}
-use Rattle.shams.specs.Checks.{Kept, honest, fixed, refusing, oneChain, firstEnd, rootByOneChain}
+use Rattle.shams.specs.Checks.{Kept, honest, fixed, refusing, one_chain, first_end, root_by_one_chain}
 
-pub honest-keeps : (suites : Hash → Suite) → Kept suites (honest suites)
+pub honest_keeps : (suites : Hash → Suite) → Kept suites (honest suites)
 unfolding honest
-honest-keeps suites = record { numbers = numbers suites; accepted = accepted suites }
+honest_keeps suites = record { numbers = numbers suites; accepted = accepted suites }
 
 -- a key of a type and a root, and a signature of index 1,023 filled with ones
 abbrev key : ℕ → ℕ → List ℕ
@@ -33,26 +33,26 @@ abbrev filler : List ℕ
 filler = to_byte 1023 4 ++ replicate 2496 1
 
 -- an empty key is answered 1, and one of type 7 is answered 2
-pub fixed-breaks : (suites : Hash → Suite) (outcome : ℕ) → Kept suites (fixed suites outcome) → ⊥
-unfolding fixed to_byte number keyType
-fixed-breaks suites outcome kept =
+pub fixed_breaks : (suites : Hash → Suite) (outcome : ℕ) → Kept suites (fixed suites outcome) → ⊥
+unfolding fixed to_byte number key_type
+fixed_breaks suites outcome kept =
     let one : outcome ≡ 1 = (kept.numbers [] [] []).one.1 (λ e. omega arith) in
     let two : outcome ≡ 2 = (kept.numbers (key 7 0) [] []).two.1 (refl, refl) in
     omega arith
 
 -- at the toy suite any signature of index 1,023 leads to the root of zeros
-honest-signature : Accepted toys (key 1 0) [] filler
-unfolding toys toy zeros right_half to_byte number keyType valueLength keyLength keyFrom valuesStart pathStart signatureLength signatureFrom tab turns parts xor base_w checksum digits step chain wotsPkFromSig messageDigest randHash ltreeNode ltreeRound ltree climb rootFromPath rootFromSig verify
-honest-signature =
+honest_signature : Accepted toys (key 1 0) [] filler
+unfolding toys toy zeros right_half to_byte number key_type value_length key_length key_from values_start path_start signature_length signature_from tab turns parts xor base_w checksum digits step chain wots_pk_from_sig message_digest rand_hash ltree_node ltree_round ltree climb root_from_path root_from_sig verify
+honest_signature =
     record {
-      accepts = record { hash = Sha2; height = 10; key-length = refl; key-type = refl; sig-length = refl; valid = refl };
+      accepts = record { hash = Sha2; height = 10; key_length = refl; key_type = refl; sig_length = refl; valid = refl };
       message = lit≤ tt;
       index = lit< tt;
     }
 
-pub refusing-breaks : Kept toys (refusing toys) → ⊥
+pub refusing_breaks : Kept toys (refusing toys) → ⊥
 unfolding refusing
-refusing-breaks kept = never (honest toys (key 1 0) [] filler) ((kept.accepted (key 1 0) [] filler).1 honest-signature)
+refusing_breaks kept = never (honest toys (key 1 0) [] filler) ((kept.accepted (key 1 0) [] filler).1 honest_signature)
   where
     never : (o : ℕ) → unless o 6 (λ n. n) ≡ 0 → ⊥
     never zero e = omega arith
@@ -68,11 +68,11 @@ Passed =
     × IndexFits toys (key 1 1) [] filler
     × (RootAgrees toys (key 1 1) [] filler → ⊥)
 
-other-root : Passed
-unfolding toys toy zeros right_half to_byte number keyType valueLength keyLength keyFrom valuesStart pathStart signatureLength signatureFrom tab turns parts xor base_w checksum digits step chain wotsPkFromSig messageDigest randHash ltreeNode ltreeRound ltree climb rootFromPath rootFromSig
-other-root = (
+other_root : Passed
+unfolding toys toy zeros right_half to_byte number key_type value_length key_length key_from values_start path_start signature_length signature_from tab turns parts xor base_w checksum digits step chain wots_pk_from_sig message_digest rand_hash ltree_node ltree_round ltree climb root_from_path root_from_sig
+other_root = (
   refl,
-  λ e. let z : ◌≡◌ {A = ℕ} 10 0 = ap heightOf e in omega arith,
+  λ e. let z : ◌≡◌ {A = ℕ} 10 0 = ap height_of e in omega arith,
   refl,
   lit≤ tt,
   lit< tt,
@@ -81,18 +81,18 @@ other-root = (
 )
 
 -- its last value passes for the end of its chain, and so for the root
-root-by-one-chain : rootByOneChain toy 10 (keyFrom 32 (key 1 1)) [] (signatureFrom 32 10 filler) ≡ (keyFrom 32 (key 1 1)).root
-unfolding toy zeros right_half to_byte number keyFrom valuesStart pathStart signatureFrom tab turns parts xor base_w checksum digits step chain wotsPkFromSig messageDigest randHash ltreeNode ltreeRound ltree climb rootFromPath rootByOneChain firstEnd
-root-by-one-chain = refl
+root_by_one_chain_lem : root_by_one_chain toy 10 (key_from 32 (key 1 1)) [] (signature_from 32 10 filler) ≡ (key_from 32 (key 1 1)).root
+unfolding toy zeros right_half to_byte number key_from values_start path_start signature_from tab turns parts xor base_w checksum digits step chain wots_pk_from_sig message_digest rand_hash ltree_node ltree_round ltree climb root_from_path root_by_one_chain first_end
+root_by_one_chain_lem = refl
 
-one-chain-accepts : oneChain toys (key 1 1) [] filler ≡ 0
-unfolding oneChain toys to_byte number keyType valueLength honest
-one-chain-accepts =
-    let six : honest toys (key 1 1) [] filler ≡ 6 = (numbers toys (key 1 1) [] filler).six.1 other-root in
-    rw six (outcome-none _ (root-by-one-chain, tt))
+one_chain_accepts : one_chain toys (key 1 1) [] filler ≡ 0
+unfolding one_chain toys to_byte number key_type value_length honest
+one_chain_accepts =
+    let six : honest toys (key 1 1) [] filler ≡ 6 = (numbers toys (key 1 1) [] filler).six.1 other_root in
+    rw six (outcome_none _ (root_by_one_chain_lem, tt))
 
-pub one-chain-breaks : Kept toys (oneChain toys) → ⊥
-one-chain-breaks kept =
-    let six : oneChain toys (key 1 1) [] filler ≡ 6 = (kept.numbers (key 1 1) [] filler).six.1 other-root in
-    let both : ◌≡◌ {A = ℕ} 0 6 = sym one-chain-accepts ∙ six in
+pub one_chain_breaks : Kept toys (one_chain toys) → ⊥
+one_chain_breaks kept =
+    let six : one_chain toys (key 1 1) [] filler ≡ 6 = (kept.numbers (key 1 1) [] filler).six.1 other_root in
+    let both : ◌≡◌ {A = ℕ} 0 6 = sym one_chain_accepts ∙ six in
     omega arith

@@ -2,7 +2,7 @@
 -- joined the right one is left.
 use Rattle.rfc8391.specs.Suite.{Suite}
 use Rattle.rfc8391.specs.declared.Hash.{Hash}
-use Rattle.shams.specs.ToyValues.{zeros, right_half, zeros-value, right-value}
+use Rattle.shams.specs.ToyValues.{zeros, right_half, zeros_value, right_value}
 
 unfoldable pub toy : Suite
 toy =
@@ -12,10 +12,10 @@ toy =
       H = λ key x. right_half x;
       Hmsg = λ key x. zeros;
       PRF = λ key x. zeros;
-      F-value = λ key x. zeros-value;
-      H-value = λ key x. right-value x;
-      Hmsg-value = λ key x. zeros-value;
-      PRF-value = λ key x. zeros-value;
+      F_value = λ key x. zeros_value;
+      H_value = λ key x. right_value x;
+      Hmsg_value = λ key x. zeros_value;
+      PRF_value = λ key x. zeros_value;
     }
 
 -- in the place of every hash's suite

@@ -6,14 +6,14 @@ use native.Mathlib.Omega.{arith}
 use lib.ListN.{length, take, drop, length-take, length-drop}
 use Rattle.lists.specs.Lists.{parts}
 use Rattle.lists.specs.Bytes.{number}
-use Rattle.lists.proofs.Flats.{parts-of-part}
+use Rattle.lists.proofs.Flats.{parts_of_part}
 use Rattle.rfc8391.specs.Suite.{Suite}
 use Rattle.rfc8391.specs.Wots.{len}
-use Rattle.rfc8391.specs.Xmss.{messageDigest, rootFromSig}
-use Rattle.rfc8391.specs.Formats.{keyLength, keyFrom, valuesStart, pathStart, signatureLength, signatureFrom, singleTree}
+use Rattle.rfc8391.specs.Xmss.{message_digest, root_from_sig}
+use Rattle.rfc8391.specs.Formats.{key_length, key_from, values_start, path_start, signature_length, signature_from, single_tree}
 use Rattle.rfc8391.specs.declared.Address.{Address}
-use Rattle.rfc8391.proofs.Values.{value-at}
-use Rattle.signatures.specs.Recomputed.{rootBy}
+use Rattle.rfc8391.proofs.Values.{value_at}
+use Rattle.signatures.specs.Recomputed.{root_by}
 
 -- how long a key and a signature of values of n bytes are, and where its path begins
 pub record Sizes (n p k s h : ℕ) : Type 0 where
@@ -21,44 +21,44 @@ pub record Sizes (n p k s h : ℕ) : Type 0 where
   pub path : p ≡ 4 + n + n * (2 * n + 3)
   pub sig : s ≡ p + n * h
 
-pub sizes-by : (n w p k s h : ℕ) → w ≡ n → p ≡ pathStart n → k ≡ keyLength n → s ≡ signatureLength n h → Sizes w p k s h
-unfolding pathStart keyLength signatureLength
-sizes-by n w p k s h ew ep ek es = record { key = rw ew ek; path = rw ew ep; sig = rw (ew, ep) es }
+pub sizes_by : (n w p k s h : ℕ) → w ≡ n → p ≡ path_start n → k ≡ key_length n → s ≡ signature_length n h → Sizes w p k s h
+unfolding path_start key_length signature_length
+sizes_by n w p k s h ew ep ek es = record { key = rw ew ek; path = rw ew ep; sig = rw (ew, ep) es }
 
 pub values_length : (S : Suite) (n p k h : ℕ) (sig : List ℕ) → S.n ≡ n → Sizes n p k (length sig) h
     → length (take (p - (4 + n)) (drop (4 + n) sig)) ≡ S.n * len S
 values_length S n p k h sig e z = rw e (simp (length-take, length-drop) (omega (arith, z.path, z.sig)))
 
-pub path-length : (S : Suite) (n p k h : ℕ) (sig : List ℕ) → S.n ≡ n → Sizes n p k (length sig) h → length (take (length sig - p) (drop p sig)) ≡ S.n * h
-path-length S n p k h sig e z = rw e (simp (length-take, length-drop) (omega (arith, z.sig)))
+pub path_length : (S : Suite) (n p k h : ℕ) (sig : List ℕ) → S.n ≡ n → Sizes n p k (length sig) h → length (take (length sig - p) (drop p sig)) ≡ S.n * h
+path_length S n p k h sig e z = rw e (simp (length-take, length-drop) (omega (arith, z.sig)))
 
 -- the seed, which stands behind the root
-pub seed-at : (n w : ℕ) (key v : List ℕ) → w ≡ n → 4 + w + w ≤ length key
+pub seed_at : (n w : ℕ) (key v : List ℕ) → w ≡ n → 4 + w + w ≤ length key
     → take (length (take (4 + w + w - (4 + w)) (drop (4 + w) key))) v ≡ take (4 + w + w - (4 + w)) (drop (4 + w) key)
     → take n v ≡ take n (drop (4 + n) key)
-seed-at n w key v e h q = value-at n w (4 + w) key v e h q ∙ rw e
+seed_at n w key v e h q = value_at n w (4 + w) key v e h q ∙ rw e
 
 module _ (S : Suite) (key m sig : List ℕ) (h : ℕ) where
   -- the two parts of a signature hold its values and its path
-  values-in : (w p : ℕ) → w ≡ S.n → p ≡ pathStart w → parts S.n (len S) 0 (take (p - (4 + w)) (drop (4 + w) sig)) ≡ (signatureFrom S.n h sig).values
-  unfolding signatureFrom valuesStart pathStart
-  values-in w p ew ep =
+  values_in_lem : (w p : ℕ) → w ≡ S.n → p ≡ path_start w → parts S.n (len S) 0 (take (p - (4 + w)) (drop (4 + w) sig)) ≡ (signature_from S.n h sig).values
+  unfolding signature_from values_start path_start
+  values_in_lem w p ew ep =
       let z : p - (4 + w) ≡ w * (2 * w + 3) = omega arith in
-      rw (z, ew) (parts-of-part S.n (len S) (4 + S.n) (S.n * len S) sig (omega arith))
+      rw (z, ew) (parts_of_part S.n (len S) (4 + S.n) (S.n * len S) sig (omega arith))
 
-  path-in : (w p : ℕ) → w ≡ S.n → p ≡ pathStart w → length sig ≡ signatureLength w h
-      → parts S.n h 0 (take (length sig - p) (drop p sig)) ≡ (signatureFrom S.n h sig).auth
-  unfolding signatureFrom pathStart signatureLength
-  path-in w p ew ep el =
+  path_in : (w p : ℕ) → w ≡ S.n → p ≡ path_start w → length sig ≡ signature_length w h
+      → parts S.n h 0 (take (length sig - p) (drop p sig)) ≡ (signature_from S.n h sig).auth
+  unfolding signature_from path_start signature_length
+  path_in w p ew ep el =
       let z : length sig - p ≡ w * h = omega arith in
-      rw (z, ep, ew) (parts-of-part S.n h (4 + S.n + S.n * len S) (S.n * h) sig (omega arith))
+      rw (z, ep, ew) (parts_of_part S.n h (4 + S.n + S.n * len S) (S.n * h) sig (omega arith))
 
-  pub recomputes : (w p i : ℕ) (a : Address) (seed root r digest x : List ℕ) → w ≡ S.n → p ≡ pathStart w → length sig ≡ signatureLength w h
-      → seed ≡ take S.n (drop (4 + S.n) key) → root ≡ take S.n (drop 4 key) → r ≡ take S.n (drop 4 sig) → i ≡ number sig 0 4 → a ≡ singleTree
-      → digest ≡ messageDigest S r root i m
-      → x ≡ rootFromSig S seed a h i (parts S.n (len S) 0 (take (p - (4 + w)) (drop (4 + w) sig)))
+  pub recomputes : (w p i : ℕ) (a : Address) (seed root r digest x : List ℕ) → w ≡ S.n → p ≡ path_start w → length sig ≡ signature_length w h
+      → seed ≡ take S.n (drop (4 + S.n) key) → root ≡ take S.n (drop 4 key) → r ≡ take S.n (drop 4 sig) → i ≡ number sig 0 4 → a ≡ single_tree
+      → digest ≡ message_digest S r root i m
+      → x ≡ root_from_sig S seed a h i (parts S.n (len S) 0 (take (p - (4 + w)) (drop (4 + w) sig)))
       (parts S.n h 0 (take (length sig - p) (drop p sig))) digest
-      → x ≡ rootBy S S.n h key m sig
-  unfolding keyFrom signatureFrom
+      → x ≡ root_by S S.n h key m sig
+  unfolding key_from signature_from
   recomputes w p i a seed root r digest x ew ep el es eo er ei ea ed ex =
-      rw (ex, values-in w p ew ep, path-in w p ew ep el, ed, es, eo, er, ei, ea)
+      rw (ex, values_in_lem w p ew ep, path_in w p ew ep el, ed, es, eo, er, ei, ea)

@@ -4,14 +4,14 @@
 ghost use Rattle.std.specs.Prelude.{◌≡◌, ◌++◌, ◌<◌, ◌≤◌, length, take, drop};
 ghost use Rattle.lists.specs.Lists.{flat};
 ghost use Rattle.lists.specs.Bytes.{to_byte};
-ghost use Rattle.rfc8391.specs.Wots.{wotsSign};
-ghost use Rattle.rfc8391.specs.Formats.{valueLength, keyLength, pathStart, signatureLength, signatureBytes};
+ghost use Rattle.rfc8391.specs.Wots.{wots_sign};
+ghost use Rattle.rfc8391.specs.Formats.{value_length, key_length, path_start, signature_length, signature_bytes};
 ghost use Rattle.keyed.specs.Sha2.{sha2};
-ghost use Rattle.keyed.specs.Seeds.{suiteOf, held, seedOf, Prepared};
+ghost use Rattle.keyed.specs.Seeds.{suite_of, held, seed_of, Prepared};
 ghost use Rattle.onetime.specs.Secrets.{Ready, value_of};
-ghost use Rattle.records.specs.Records.{recordFrom};
-ghost use Rattle.records.specs.Keys.{signedBy};
-ghost use Rattle.signatures.specs.Parts.{chainValues, pathNodes};
+ghost use Rattle.records.specs.Records.{record_from};
+ghost use Rattle.records.specs.Keys.{signed_by};
+ghost use Rattle.signatures.specs.Parts.{chain_values, path_nodes};
 ghost use Rattle.signatures.specs.Recomputed.{recomputed};
 
 use keyed::Seed;
@@ -29,10 +29,10 @@ fn write_head(out: &mut [u8], index: u32, r: [u8; 32])
 
 // Every chain value of the value m in its own 32 bytes, by a walk that gets this part of the out buffer alone.
 fn write_values(out: &mut [u8], x: Secrets, s: Seed, m: [u8; 32])
-    requires { Prepared s × Ready x × (suiteOf x.leaf ≡ suiteOf s) × ((suiteOf s).n ≡ 32) × (2180 ≤ length out.old) }
+    requires { Prepared s × Ready x × (suite_of x.leaf ≡ suite_of s) × ((suite_of s).n ≡ 32) × (2180 ≤ length out.old) }
     ensures { out.new
         ≡ take 36 out.old
-        ++ (flat (wotsSign (suiteOf s) (seedOf s) x.at (held s m) (value_of x)) ++ drop 2180 out.old) }
+        ++ (flat (wots_sign (suite_of s) (seed_of s) x.at (held s m) (value_of x)) ++ drop 2180 out.old) }
 {
     let d = onetime::digits_of(m, 64);
     let a = x.at;
@@ -52,8 +52,8 @@ fn write_values(out: &mut [u8], x: Secrets, s: Seed, m: [u8; 32])
 }
 
 fn write_path(out: &mut [u8], secret: [u8; 32], s: Seed, index: u32)
-    requires { Prepared s × ((suiteOf s).n ≡ 32) × (index < 1024) × (length out.old ≡ 2500) }
-    ensures { out.new ≡ take 2180 out.old ++ pathNodes (held s secret) s index }
+    requires { Prepared s × ((suite_of s).n ≡ 32) × (index < 1024) × (length out.old ≡ 2500) }
+    ensures { out.new ≡ take 2180 out.old ++ path_nodes (held s secret) s index }
 {
     tree::write_path(
         &mut out[2180..2500],
@@ -75,9 +75,9 @@ fn randomiser(prfkey: &[u8], index: u32) -> [u8; 32]
 }
 
 fn write_parts(out: &mut [u8], secret: [u8; 32], s: Seed, index: u32, r: [u8; 32], m: [u8; 32])
-    requires { Prepared s × ((suiteOf s).n ≡ 32) × (index < 1024) × (length out.old ≡ 2500) }
+    requires { Prepared s × ((suite_of s).n ≡ 32) × (index < 1024) × (length out.old ≡ 2500) }
     ensures { out.new
-        ≡ to_byte index 4 ++ (r ++ (chainValues (held s secret) s index (held s m) ++ pathNodes (held s secret) s index)) }
+        ≡ to_byte index 4 ++ (r ++ (chain_values (held s secret) s index (held s m) ++ path_nodes (held s secret) s index)) }
 {
     write_head(out, index, r);
     let at = Address::single_tree().ots_at(index);
@@ -88,7 +88,7 @@ fn write_parts(out: &mut [u8], secret: [u8; 32], s: Seed, index: u32, r: [u8; 32
 // The signature of a message by an index, with what a secret record holds. Keys of type 1 alone sign.
 pub fn write_signature(secret: &[u8], index: u32, message: &[u8], out: &mut [u8])
     requires { (length secret.now ≡ 132) × (index < 1024) × (length out.old ≡ 2500) }
-    ensures { out.new ≡ signatureBytes (signedBy sha2 (recordFrom 32 secret.now) index message.now) }
+    ensures { out.new ≡ signature_bytes (signed_by sha2 (record_from 32 secret.now) index message.now) }
 {
     let s = keyed::prepare(Hash::Sha2, rfc8391::value_of(&secret[68..100]));
     let r = randomiser(&secret[36..68], index);
@@ -100,7 +100,7 @@ pub fn write_signature(secret: &[u8], index: u32, message: &[u8], out: &mut [u8]
 // Where a signature's path begins, behind the index, r and the chain values: at 2,180 where values have 32 bytes.
 fn path_start(n: usize) -> usize
     requires { n ≤ 32 }
-    ensures { result ≡ pathStart n }
+    ensures { result ≡ path_start n }
 {
     4 + n + n * (2 * n + 3)
 }
@@ -113,9 +113,9 @@ pub fn recomputed_root(
     message: &[u8],
     signature: &[u8],
 ) -> [u8; 32]
-    requires { (height ≤ 20) × (length key.now ≡ keyLength (valueLength hash))
-        × (length signature.now ≡ signatureLength (valueLength hash) height) }
-    ensures { take (valueLength hash) result
+    requires { (height ≤ 20) × (length key.now ≡ key_length (value_length hash))
+        × (length signature.now ≡ signature_length (value_length hash) height) }
+    ensures { take (value_length hash) result
         ≡ recomputed hash height key.now message.now signature.now }
 {
     let n = keyed::value_length(hash);

@@ -6,58 +6,58 @@ use native.Mathlib.Nat.{pow-suc, add-mul, mul_assoc, mul-one, mul-le-mul_left, m
 use native.Mathlib.Omega.{arith}
 use lib.Pow.{pow_pos, pow-add, pow_mono}
 use Rattle.rfc8391.specs.Xmss.{sibling}
-use Rattle.rfc8391.proofs.Trees.{sibling-of-left, sibling-of-right}
+use Rattle.rfc8391.proofs.Trees.{sibling_of_left, sibling_of_right}
 
 -- the leaves below the node of height h at position p
 abbrev pub Within : ℕ → ℕ → Type 0
 Within h p = (p + 1) * 2 ^ h ≤ 1048576
 
 -- the position itself
-pub within-position : (h p : ℕ) → Within h p → p + 1 ≤ 1048576
-within-position h p w =
+pub within_position : (h p : ℕ) → Within h p → p + 1 ≤ 1048576
+within_position h p w =
     let a : (p + 1) * 1 ≤ (p + 1) * 2 ^ h = mul-le-mul_left (p + 1) (pow_pos h) in
     omega (arith, mul-one (p + 1))
 
 -- the two nodes below
-pub within-right : (h k p : ℕ) → h ≡ suc k → Within h p → Within k (2 * p + 1)
-within-right h k p e w =
+pub within_right : (h k p : ℕ) → h ≡ suc k → Within h p → Within k (2 * p + 1)
+within_right h k p e w =
     let s : 2 * p + 1 + 1 ≡ (p + 1) + (p + 1) = omega arith in
     let d : (p + 1) * 2 ^ h ≡ (p + 1) * 2 ^ k * 2 = rw (e, pow-suc, mul_assoc) in
     rw (s, add-mul) (omega arith)
 
-pub within-left : (h k p : ℕ) → h ≡ suc k → Within h p → Within k (2 * p)
-within-left h k p e w =
-    let r : (2 * p + 1 + 1) * 2 ^ k ≤ 1048576 = within-right h k p e w in
+pub within_left : (h k p : ℕ) → h ≡ suc k → Within h p → Within k (2 * p)
+within_left h k p e w =
+    let r : (2 * p + 1 + 1) * 2 ^ k ≤ 1048576 = within_right h k p e w in
     omega (arith, add-mul (2 * p + 1) 1 (2 ^ k))
 
 -- the ancestor at height k of a leaf of a tree of height h
-pub ancestor-below : (h i k : ℕ) → i < 2 ^ h → k ≤ h → i / 2 ^ k < 2 ^ (h - k)
-ancestor-below h i k q l =
+pub ancestor_below : (h i k : ℕ) → i < 2 ^ h → k ≤ h → i / 2 ^ k < 2 ^ (h - k)
+ancestor_below h i k q l =
     let e : 2 ^ (h - k) * 2 ^ k ≡ 2 ^ h = sym (pow-add 2 (h - k) k) ∙ ap (λ (n : ℕ). 2 ^ n) (omega arith) in
     (div-lt_iff_lt-mul (pow_pos k)).1 (rw e q)
 
 -- its sibling
-sibling-below : (p d : ℕ) → p < 2 ^ suc d → sibling p < 2 ^ suc d
-sibling-below p d q =
+sibling_below : (p d : ℕ) → p < 2 ^ suc d → sibling p < 2 ^ suc d
+sibling_below p d q =
     let e : 2 ^ suc d ≡ 2 ^ d * 2 = pow-suc 2 d in
     ⊎_elim
-    (λ (z : p % 2 ≡ 0). rw (sibling-of-left p z) (omega arith))
-    (λ (z : 0 < p % 2). rw (sibling-of-right p (λ n. omega arith)) (omega arith))
+    (λ (z : p % 2 ≡ 0). rw (sibling_of_left p z) (omega arith))
+    (λ (z : 0 < p % 2). rw (sibling_of_right p (λ n. omega arith)) (omega arith))
     (eq-zero-or-pos (p % 2))
 
-pub sibling-within : (h i k p b : ℕ) → h ≤ 20 → i < 2 ^ h → k < h → p ≡ i / 2 ^ k → b ≡ sibling p → Within k b
-sibling-within h i k p b t q l ep eb =
+pub sibling_within : (h i k p b : ℕ) → h ≤ 20 → i < 2 ^ h → k < h → p ≡ i / 2 ^ k → b ≡ sibling p → Within k b
+sibling_within h i k p b t q l ep eb =
     let s : h - k ≡ suc (h - k - 1) = omega arith in
-    let pb : p < 2 ^ suc (h - k - 1) = rw (← s, ep) (ancestor-below h i k q (omega arith)) in
-    let bb : b < 2 ^ (h - k) = rw (s, eb) (sibling-below p (h - k - 1) pb) in
+    let pb : p < 2 ^ suc (h - k - 1) = rw (← s, ep) (ancestor_below h i k q (omega arith)) in
+    let bb : b < 2 ^ (h - k) = rw (s, eb) (sibling_below p (h - k - 1) pb) in
     let m : (b + 1) * 2 ^ k ≤ 2 ^ (h - k) * 2 ^ k = mul-le-mul_right (2 ^ k) (omega arith) in
     let e : 2 ^ (h - k) * 2 ^ k ≡ 2 ^ h = sym (pow-add 2 (h - k) k) ∙ ap (λ (n : ℕ). 2 ^ n) (omega arith) in
     let u : 2 ^ h ≤ 2 ^ 20 = pow_mono t in
     omega arith
 
 -- the position is a u32 well within 2 ^ 20
-pub position-below : (h i k p : ℕ) → h ≤ 20 → i < 2 ^ h → k ≤ h → p ≡ i / 2 ^ k → p < 1048576
-position-below h i k p t q l e =
-    let b : p < 2 ^ (h - k) = rw e (ancestor-below h i k q l) in
+pub position_below : (h i k p : ℕ) → h ≤ 20 → i < 2 ^ h → k ≤ h → p ≡ i / 2 ^ k → p < 1048576
+position_below h i k p t q l e =
+    let b : p < 2 ^ (h - k) = rw e (ancestor_below h i k q l) in
     let u : 2 ^ (h - k) ≤ 2 ^ 20 = pow_mono {j = 20} (omega arith) in
     omega arith

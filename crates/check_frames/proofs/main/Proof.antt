@@ -4,8 +4,8 @@ use Prim.Native.Nat.{◌+◌, ◌*◌, ◌^◌, ◌≤◌}
 use lib.ListN.{length, take, length-take}
 use lib.Seq.{length-take-le}
 use lib.Dec.{lit≤}
-use Rattle.frames.specs.Buffers.{startState, Ready}
-use Rattle.frames.proofs.Sessions.{ready-start}
+use Rattle.frames.specs.Buffers.{start_state, Ready}
+use Rattle.frames.proofs.Sessions.{ready_start}
 use borrow.Author.Rules.{rules}
 use native.Mathlib.Omega.{arith}
 use Rattle.check_frames.proofs.main.Statement.{statement}
@@ -33,8 +33,8 @@ start-requires c κs = search rules
 
 loop-holds : tie.Need-loop-init invariant-loop decreases-loop
 loop-holds c =
-    let z : c.start.result ≡ startState = c.start.ensures in
-    (refl, refl, refl, refl, c.before.buffer.ensures, rw z (ready-start _ _ _ (lit≤ tt) (lit≤ tt)), lit≤ tt, rw z (lit≤ tt))
+    let z : c.start.result ≡ start_state = c.start.ensures in
+    (refl, refl, refl, refl, c.before.buffer.ensures, rw z (ready_start _ _ _ (lit≤ tt) (lit≤ tt)), lit≤ tt, rw z (lit≤ tt))
 
 slice-aggregate-read-full : tie.Need-slice-aggregate-read-full invariant-loop decreases-loop
 slice-aggregate-read-full c = search rules

@@ -1,8 +1,8 @@
--- A line feed ends the line, any other character is put on it: the two cases of `charStep`.
+-- A line feed ends the line, any other character is put on it: the two cases of `char_step`.
 use mathlib.Core.Path.{◌∙◌}
 use lib.ListN.{length, take}
 use Rattle.frames.specs.Buffers.{sess}
-use Rattle.frames.proofs.Sessions.{feeds, grows, ready-grown}
+use Rattle.frames.proofs.Sessions.{feeds, grows, ready_grown}
 use native.Mathlib.Omega.{arith}
 use borrow.Author.Rules.{rules}
 use Rattle.frames.proofs.advance.Statement.{statement}
@@ -46,7 +46,7 @@ returns-2 c =
     let f = a.frame.now in
     let k = a.key.now in
     let m = a.message.now in (
-      ready-grown f p.new.0 k m a.s p.result s.requires.0 p.auto.0 p.ensures.1,
+      ready_grown f p.new.0 k m a.s p.result s.requires.0 p.auto.0 p.ensures.1,
       (
         grows f p.new.0 k m a.s p.result (take a.at a.out.now) _ p.ensures.0 t.if1.false,
         (omega arith, omega arith),

@@ -9,7 +9,7 @@ use Rattle.frames.specs.Frames.{answer}
 use Rattle.frames.specs.Buffers.{sess, says, Ready}
 use Rattle.frames.specs.declared.State.{State}
 use Rattle.frames.specs.declared.Told.{Told}
-use Rattle.frames.proofs.Sessions.{next, closes, ready-closed}
+use Rattle.frames.proofs.Sessions.{next, closes, ready_closed}
 use native.Mathlib.Omega.{arith}
 use borrow.Author.Rules.{rules}
 use Rattle.frames.proofs.close_line.Statement.{statement}
@@ -66,7 +66,7 @@ ready : (c : tie.After-fresh-line)
 ready c =
     let a = (entry c).args in
     let e = (ended c).end_line in
-    ready-closed a.frame.now a.key.now e.last.1.0 a.message.now e.last.1.1.0 a.s e.result _
+    ready_closed a.frame.now a.key.now e.last.1.0 a.message.now e.last.1.1.0 a.s e.result _
     c.fresh-line.ensures _ (entry c).requires.0 e.kept.1.0 e.kept.1.1.0 e.ensures.0
 
 -- and with a text behind what stood there it is what `closed` says

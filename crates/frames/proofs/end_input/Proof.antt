@@ -1,7 +1,7 @@
--- A line that has begun is closed, else nothing is written: the two cases of `endInput`.
+-- A line that has begun is closed, else nothing is written: the two cases of `end_input`.
 use mathlib.Core.Path.{◌∙◌}
 use Rattle.frames.specs.Buffers.{sess}
-use Rattle.frames.proofs.Sessions.{ends-line, ends-nothing}
+use Rattle.frames.proofs.Sessions.{ends_line, ends_nothing}
 use native.Mathlib.Omega.{arith}
 use borrow.Author.Rules.{rules}
 use Rattle.frames.proofs.end_input.Statement.{statement}
@@ -27,12 +27,12 @@ returns c =
     let s = t.before.before.before.before.before in
     let a = s.args in
     let z = sess a.frame.now a.key.now a.message.now a.s in
-    (e.1.0 ∙ ends-line z t.if1.true, omega (arith, e.1.1.0, s.requires.1.0))
+    (e.1.0 ∙ ends_line z t.if1.true, omega (arith, e.1.1.0, s.requires.1.0))
 
 returns-2 : tie.Need-returns-2
 returns-2 c =
     let a = c.before.before.before.before.before.args in
-    (ends-nothing (sess a.frame.now a.key.now a.message.now a.s) c.if1.false, omega arith)
+    (ends_nothing (sess a.frame.now a.key.now a.message.now a.s) c.if1.false, omega arith)
 
 pub end-input-spec : {M : Type 1} → statement M
 end-input-spec =

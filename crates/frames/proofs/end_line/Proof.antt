@@ -2,7 +2,7 @@
 use mathlib.Core.Path.{sym}
 use mathlib.Core.Logic.{⊎_elim}
 use lib.Seq.{length-take-le}
-use Rattle.frames.proofs.Endings.{Whole, keeps, no_bytes, not-read, a_key, a-message, a-signature, another}
+use Rattle.frames.proofs.Endings.{Whole, keeps, no_bytes, not_read, a_key, a_message, a_signature, another}
 use native.Mathlib.Omega.{arith}
 use borrow.Author.Rules.{rules}
 use Rattle.frames.proofs.end_line.Statement.{statement}
@@ -17,7 +17,7 @@ whole : (c : tie.After-shared-slice-known2) → Whole (entry c).args.frame.now (
 whole c =
     let t = c.before.before in
     let e = t.before.before in
-    record { some_bytes = e.before.if1.false; good = e.if2.false; no-half = t.if3.false; fits = (entry c).requires.line-in }
+    record { some_bytes = e.before.if1.false; good = e.if2.false; no-half = t.if3.false; fits = (entry c).requires.line_in }
 
 returns : tie.Need-returns
 returns c =
@@ -28,7 +28,7 @@ returns c =
       λ n.
           ⊎_elim
           (λ v. no_bytes f l _ n v.taken)
-          (⊎_elim (λ v. not-read f l _ n (rw v.1.taken)) (λ v. not-read f l _ n (rw (v.1.left, v.3.taken))))
+          (⊎_elim (λ v. not_read f l _ n (rw v.1.taken)) (λ v. not_read f l _ n (rw (v.1.left, v.3.taken))))
           c.if1.branch,
     )
 
@@ -64,7 +64,7 @@ slice-reshare-prefix-check-2 c = search rules
 slice-aggregate-check-2 : tie.Need-slice-aggregate-check-2
 slice-aggregate-check-2 c =
     let s = entry c.before.before.before in
-    sym (length-take-le s.args.s.kept.message s.args.message.now s.pre.kept.message-in)
+    sym (length-take-le s.args.s.kept.message s.args.message.now s.pre.kept.message_in)
 
 check-requires : tie.Need-check-requires
 check-requires c κs = search rules
@@ -96,7 +96,7 @@ returns-3 c =
     (omega (arith, s.pre)) in
     let h = whole m.before in (
       record { key_in = omega (arith, q, s.pre); message-in = omega (arith, q, s.pre) },
-      λ n. a-message _ s.args.s.line _ n _ h m.match.keys2 q.1,
+      λ n. a_message _ s.args.s.line _ n _ h m.match.keys2 q.1,
     )
 
 same-length-3 : tie.Need-same-length-3
@@ -109,7 +109,7 @@ returns-4 : tie.Need-returns-4
 returns-4 c =
     let m = c.before.before.before in
     let s = entry m.before in
-    (s.pre.kept, λ n. a-signature _ s.args.s.line _ n c.check.result (whole m.before) m.match.keys3 c.check.ensures)
+    (s.pre.kept, λ n. a_signature _ s.args.s.line _ n c.check.result (whole m.before) m.match.keys3 c.check.ensures)
 
 returns-5 : tie.Need-returns-5
 returns-5 c =

@@ -1,7 +1,7 @@
 -- Each return is a case of `put_of`, by the tests that led there.
 use mathlib.Core.Logic.{⊎_elim}
 use borrow.Author.Tests.{leb-false}
-use Rattle.lines.proofs.Puts.{refused, high-waits, byte-ends}
+use Rattle.lines.proofs.Puts.{refused, high_waits, byte_ends}
 use native.Mathlib.Omega.{arith}
 use borrow.Author.Rules.{rules}
 use Rattle.lines.proofs.put.Statement.{statement}
@@ -27,7 +27,7 @@ returns-2 c =
     let t = c.before in
     let d = t.before.before.before in
     let a = d.before.before.args in (
-      high-waits a.frame.now a.l a.c d.digit.result d.digit.ensures
+      high_waits a.frame.now a.l a.c d.digit.result d.digit.ensures
           t.before.before.if1.false t.before.if2.false t.if3.false c.if4.true,
       λ h. h,
     )
@@ -52,7 +52,7 @@ returns-3 c =
     let t = c.before in
     let d = t.before.before.before in
     let a = d.before.before.args in (
-      byte-ends a.frame.now a.l a.c d.digit.result d.digit.ensures
+      byte_ends a.frame.now a.l a.c d.digit.result d.digit.ensures
           t.before.before.if1.false t.before.if2.false t.if3.false c.if4.false,
       λ h. omega (arith, leb-false, t.if3.false),
     )

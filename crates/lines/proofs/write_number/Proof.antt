@@ -2,8 +2,8 @@
 use mathlib.Core.Path.{◌∙◌}
 use Prim.Native.Nat.{ℕ, ◌+◌, ◌-◌, ◌≤◌, ◌<◌}
 use lib.ListN.{length, take, drop, length-take, length-drop}
-use Rattle.lines.proofs.Decimals.{decimal-is, decimal-le}
-use Rattle.lines.proofs.Buffers.{copied, inside, with-last}
+use Rattle.lines.proofs.Decimals.{decimal_is, decimal_le}
+use Rattle.lines.proofs.Buffers.{copied, inside, with_last}
 use native.Mathlib.Omega.{arith}
 use borrow.Author.Rules.{rules}
 use Rattle.lines.proofs.write_number.Statement.{statement}
@@ -29,7 +29,7 @@ part-copy-end c = search rules
 
 -- how many digits there are at most
 few : (c : tie.After-decimal) → c.decimal.result ≤ 20
-few c = decimal-le _ _ c.before.before.before.ranges.n.fits c.decimal.ensures.1.0
+few c = decimal_le _ _ c.before.before.before.ranges.n.fits c.decimal.ensures.1.0
 
 copy-requires : tie.Need-copy-requires
 copy-requires c κs =
@@ -89,8 +89,8 @@ returns c =
     let e = c.before.before.copy.ensures in
     let w = d.decimal.ensures in
     let text = take d.decimal.result d.decimal.new.1.0 in (
-      with-last s.args.out.now _ _ _ s.args.at d.decimal.result s.args.last (omega (arith, in-range c))
-          (copied _ text _ _ w.0.1 e.1 ∙ w.1.1 ∙ decimal-is _ _ s.fits.n.fits w.1.0)
+      with_last s.args.out.now _ _ _ s.args.at d.decimal.result s.args.last (omega (arith, in-range c))
+          (copied _ text _ _ w.0.1 e.1 ∙ w.1.1 ∙ decimal_is _ _ s.fits.n.fits w.1.0)
           (room c),
       omega (arith, few d),
     )

@@ -2,7 +2,7 @@
 use mathlib.Core.Path.{ap}
 use Prim.Native.Nat.{ℕ, ◌-◌}
 use Rattle.marks.specs.Page.{cleared}
-use Rattle.marks.proofs.Bytes.{has-bit}
+use Rattle.marks.proofs.Bytes.{has_bit}
 use Rattle.marks.proofs.cleared.Statement.{statement}
 use Rattle.marks.proofs.cleared.Tie as tie
 
@@ -10,7 +10,7 @@ bit-of-requires : tie.Need-bit-of-requires
 bit-of-requires c κs = c.requires.0
 
 sub-result : tie.Need-overflow-sub-result
-sub-result c = rw c.bit-of.ensures (has-bit c.before.args.b c.before.args.mark c.before.requires.1)
+sub-result c = rw c.bit-of.ensures (has_bit c.before.args.b c.before.args.mark c.before.requires.1)
 
 returns : tie.Need-returns
 unfolding cleared

@@ -11,7 +11,7 @@ use Rattle.lists.specs.Bytes.{Bytes}
 use Rattle.marks.specs.Marking.{byte_count}
 use Rattle.marks.proofs.Ordered.{FirstUsed}
 use Rattle.marks.specs.declared.Tally.TheVariants.{Used}
-use Rattle.marks.proofs.Counting.{counts-none, few, byte_more, byte-out, byte-late, all-counted}
+use Rattle.marks.proofs.Counting.{counts_none, few, byte_more, byte_out, byte_late, all_counted}
 use Rattle.marks.proofs.count.Statement.{statement}
 use Rattle.marks.proofs.count.Tie as tie
 
@@ -30,7 +30,7 @@ turn : (c : tie.After-known-told invariant-loop decreases-loop) → byte_count (
 turn c = sym c.before.before.before.byte-marks.ensures ∙ c.before.t.given.1
 
 returns : tie.Need-returns invariant-loop decreases-loop
-returns c = counts-none _ (λ w. c.if1.true w.0)
+returns c = counts_none _ (λ w. c.if1.true w.0)
 
 loop-holds : tie.Need-loop-init invariant-loop decreases-loop
 loop-holds c = (c.if1.false, omega arith, omega arith, λ k h. absurd (not-suc-le-zero h))
@@ -53,7 +53,7 @@ enum_told c = search rules
 returns-2 : tie.Need-returns-2 invariant-loop decreases-loop
 returns-2 c =
     let k = c.before.before.before in
-    byte-out _ (bytes k) _ k.before.loop-test.true (sym c.before.before.byte-marks.ensures ∙ c.enum_told.given.1)
+    byte_out _ (bytes k) _ k.before.loop-test.true (sym c.before.before.byte-marks.ensures ∙ c.enum_told.given.1)
 
 mul-if3 : tie.Need-overflow-mul-if3 invariant-loop decreases-loop
 mul-if3 c = search rules
@@ -62,7 +62,7 @@ returns-3 : tie.Need-returns-3 invariant-loop decreases-loop
 returns-3 c =
     let k = c.before.before.before.before.before.before in
     let l = k.before.before.loop in
-    byte-late _ _ _ _ l.invariant.2 l.invariant.3 (turn c.before.before) (bytes k) k.before.loop-test.true c.before.if2.true (eqb-false _ _ (not-true _ c.if3.true))
+    byte_late _ _ _ _ l.invariant.2 l.invariant.3 (turn c.before.before) (bytes k) k.before.loop-test.true c.before.if2.true (eqb-false _ _ (not-true _ c.if3.true))
 
 add-n : tie.Need-overflow-add-n invariant-loop decreases-loop
 add-n c =
@@ -85,7 +85,7 @@ returns-4 : tie.Need-returns-4 invariant-loop decreases-loop
 returns-4 c =
     let l = c.before.loop in
     let e : 8 * l.i ≡ 1024 = omega arith in
-    all-counted _ l.n l.invariant.0 (omega arith) (rw (← e) l.invariant.3)
+    all_counted _ l.n l.invariant.0 (omega arith) (rw (← e) l.invariant.3)
 
 pub count_spec : {M : Type 1} → statement M
 count_spec =

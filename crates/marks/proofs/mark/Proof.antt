@@ -8,8 +8,8 @@ use lib.ListN.{length}
 use borrow.Author.Tests.{ltb-false, le-ltb}
 use borrow.Author.Rules.{rules}
 use Rattle.marks.specs.Page.{used, WellFormed}
-use Rattle.marks.proofs.Counting.{counted, not-counted}
-use Rattle.marks.proofs.Answers.{next-unused, mark-malformed, mark-unfit, mark-next, mark-again}
+use Rattle.marks.proofs.Counting.{counted, not_counted}
+use Rattle.marks.proofs.Answers.{next_unused, mark_malformed, mark_unfit, mark_next, mark_again}
 use Rattle.marks.proofs.mark.Statement.{statement}
 use Rattle.marks.proofs.mark.Tie as tie
 
@@ -38,13 +38,13 @@ same_length : tie.Need-same-length
 same_length c = search rules
 
 returns : tie.Need-returns
-returns c = mark-malformed _ _ (not-counted _ (sym c.before.before.count.ensures ∙ c.enum_told.given.1))
+returns c = mark_malformed _ _ (not_counted _ (sym c.before.before.count.ensures ∙ c.enum_told.given.1))
 
 same-length-2 : tie.Need-same-length-2
 same-length-2 c = search rules
 
 returns-2 : tie.Need-returns-2
-returns-2 c = let k = known c.before in mark-unfit _ _ _ k.0 k.1
+returns-2 c = let k = known c.before in mark_unfit _ _ _ k.0 k.1
     (λ f. ⊎_elim (λ t. omega (arith, t.taken, f.0.0)) (λ t. false≢true (sym (le-ltb _ _ f.0.1) ∙ t.1.taken)) c.if1.branch)
 
 sub-i : tie.Need-overflow-sub-i
@@ -59,7 +59,7 @@ slice-read-byte c = place c.before
 cleared-requires : tie.Need-cleared-requires
 cleared-requires c κs =
     let w = known c.before.before.before.before in
-    (omega arith, next-unused _ _ w.0 (w.1 ∙ c.before.if3.true) (omega (arith, (range c.before.before).0, (range c.before.before).1)))
+    (omega arith, next_unused _ _ w.0 (w.1 ∙ c.before.if3.true) (omega (arith, (range c.before.before).0, (range c.before.before).1)))
 
 slice-write-page : tie.Need-slice-write-page
 slice-write-page c = place c.before.before
@@ -71,7 +71,7 @@ returns-3 : tie.Need-returns-3
 returns-3 c =
     let k = c.before.before in
     let w = known k.before.before.before in
-    mark-next _ _ _ w.0 w.1 _ (range k.before) k.if3.true c.cleared.ensures
+    mark_next _ _ _ w.0 w.1 _ (range k.before) k.if3.true c.cleared.ensures
 
 same-length-4 : tie.Need-same-length-4
 same-length-4 c = search rules
@@ -79,7 +79,7 @@ same-length-4 c = search rules
 returns-4 : tie.Need-returns-4
 returns-4 c =
     let w = known c.before.before.before.before in
-    mark-again _ _ _ w.0 w.1 (range c.before.before) c.if4.true
+    mark_again _ _ _ w.0 w.1 (range c.before.before) c.if4.true
 
 same-length-5 : tie.Need-same-length-5
 same-length-5 c = search rules
@@ -87,7 +87,7 @@ same-length-5 c = search rules
 returns-5 : tie.Need-returns-5
 returns-5 c =
     let w = known c.before.before.before.before in
-    mark-unfit _ _ _ w.0 w.1
+    mark_unfit _ _ _ w.0 w.1
     (λ f. ⊎_elim (λ e. c.before.if3.false (sym w.1 ∙ e)) (λ e. c.if4.false (sym w.1 ∙ e)) f.1)
 
 pub mark_spec : {M : Type 1} → statement M

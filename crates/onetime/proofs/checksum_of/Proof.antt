@@ -4,7 +4,7 @@ use lib.ListN.{get_or}
 use Prim.Native.Nat.{ℕ, ◌≤◌, ◌-◌, ◌*◌, ◌/◌, ◌%◌, ◌^◌}
 use mathlib.Core.Path.{◌≡◌, refl, ◌∙◌, ap}
 use borrow.Author.Rules.{rules}
-use Rattle.rfc8391.proofs.Digits.{checksum-more}
+use Rattle.rfc8391.proofs.Digits.{checksum_more}
 use Rattle.rfc8391.specs.Wots.{base_w, checksum}
 use Rattle.lists.specs.Lists.{tab}
 use Rattle.onetime.proofs.checksum_of.Statement.{statement}
@@ -26,7 +26,7 @@ loop-again c =
     let m = c.before.before.before.before.before.args.t1 in
     let d : c.wide.result ≡ 15 - get_or m (l.i / 2) 0 / 16 ^ (1 - l.i % 2) % 16 =
     c.wide.ensures.0 ∙ ap (λ (x : ℕ). 15 - x) c.before.digit_at.ensures.0 in
-    (omega arith, rw (checksum-more m l.i, ← l.invariant.1, d), omega (arith, c.wide.ensures.0))
+    (omega arith, rw (checksum_more m l.i, ← l.invariant.1, d), omega (arith, c.wide.ensures.0))
 
 returns : tie.Need-returns invariant-loop decreases-loop
 returns c =

@@ -4,12 +4,12 @@ use Prim.Native.Nat.{ℕ}
 use lib.ListN.{take}
 use borrow.Author.Rules.{rules}
 use native.Mathlib.Omega.{arith}
-use Rattle.keyed.proofs.Suites.{seed-fits}
+use Rattle.keyed.proofs.Suites.{seed_fits}
 use Rattle.onetime.proofs.walk_into.Statement.{statement}
 use Rattle.onetime.proofs.walk_into.Tie as tie
 
 write-value-requires : tie.Need-write-value-requires
-write-value-requires c κs = omega (arith, seed-fits c.before.before.before.before.args.s)
+write-value-requires c κs = omega (arith, seed_fits c.before.before.before.before.args.s)
 
 returns : tie.Need-returns
 returns c =

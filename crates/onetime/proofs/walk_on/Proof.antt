@@ -3,12 +3,12 @@ use borrow.Author.Rules.{rules}
 use mathlib.Core.Path.{◌≡◌}
 use native.Mathlib.Omega.{arith}
 use Rattle.keyed.specs.Seeds.{held}
-use Rattle.keyed.proofs.Suites.{seed-fits}
+use Rattle.keyed.proofs.Suites.{seed_fits}
 use Rattle.onetime.proofs.walk_on.Statement.{statement}
 use Rattle.onetime.proofs.walk_on.Tie as tie
 
 value-of-requires : tie.Need-value-of-requires
-value-of-requires c κs = omega (arith, seed-fits c.before.args.s)
+value-of-requires c κs = omega (arith, seed_fits c.before.args.s)
 
 returns : tie.Need-returns
 returns c =

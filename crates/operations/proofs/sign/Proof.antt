@@ -1,13 +1,13 @@
 -- A refusal, or the signature of the pending index.
 use mathlib.Core.Path.{sym, ◌∙◌}
 use native.Mathlib.Omega.{arith}
-use Rattle.operations.proofs.Signs.{Allowed, allowed, sign-refused, sign-done}
+use Rattle.operations.proofs.Signs.{Allowed, allowed, sign_refused, sign_done}
 use borrow.Author.Rules.{rules}
 use Rattle.operations.proofs.sign.Statement.{statement}
 use Rattle.operations.proofs.sign.Tie as tie
 
 returns : tie.Need-returns
-returns c = sign-refused _ _ _ _ _ _ c.before.sign-refusal.ensures c.if1.true
+returns c = sign_refused _ _ _ _ _ _ c.before.sign-refusal.ensures c.if1.true
 
 -- what is known where nothing refused
 may : (c : tie.Else1)
@@ -23,11 +23,11 @@ sub-write-signature c = (may c).one
 write-signature-requires : tie.Need-write-signature-requires
 write-signature-requires c κs =
     let a = may c.before in
-    (a.secret-length, (let o = a.one in let m = a.most in omega arith), a.room)
+    (a.secret_length, (let o = a.one in let m = a.most in omega arith), a.room)
 
 returns-2 : tie.Need-returns-2
 returns-2 c =
-    sign-done _ _ _ _ _ _ (sym c.before.before.before.before.before.sign-refusal.ensures
+    sign_done _ _ _ _ _ _ (sym c.before.before.before.before.before.sign-refusal.ensures
     ∙ c.before.before.before.before.if1.false) c.before.before.write-signature.ensures
 
 pub sign-spec : {M : Type 1} → statement M

@@ -3,9 +3,9 @@ use mathlib.Core.Path.{◌≡◌, sym, ◌∙◌}
 use native.Mathlib.Omega.{arith}
 use Rattle.lists.specs.Bytes.{number}
 use Rattle.marks.specs.Page.{used, WellFormed}
-use Rattle.marks.proofs.Counting.{counted, not-counted}
-use Rattle.marks.proofs.Marks.{used-most}
-use Rattle.operations.proofs.Signs.{record-wrong, type-unserved, message-long, room-wrong, page-wrong, not-stored, stored}
+use Rattle.marks.proofs.Counting.{counted, not_counted}
+use Rattle.marks.proofs.Marks.{used_most}
+use Rattle.operations.proofs.Signs.{record_wrong, type_unserved, message_long, room_wrong, page_wrong, not_stored, stored}
 use borrow.Author.Rules.{rules}
 use Rattle.operations.proofs.sign_refusal.Statement.{statement}
 use Rattle.operations.proofs.sign_refusal.Tie as tie
@@ -20,32 +20,32 @@ tallied : (c : tie.After-tally)
 tallied c = counted _ _ (sym c.before.before.count.ensures ∙ c.tally.given.1)
 
 returns : tie.Need-returns
-returns c = record-wrong _ _ _ _ _ c.if1.true
+returns c = record_wrong _ _ _ _ _ c.if1.true
 
 returns-2 : tie.Need-returns-2
-returns-2 c = type-unserved _ _ _ _ _ c.before.before.if1.false (λ e. omega (arith, c.before.big_endian.ensures, c.if2.true))
+returns-2 c = type_unserved _ _ _ _ _ c.before.before.if1.false (λ e. omega (arith, c.before.big_endian.ensures, c.if2.true))
 
 returns-3 : tie.Need-returns-3
-returns-3 c = message-long _ _ _ _ _ c.before.before.before.if1.false (typed c.before) c.if3.true
+returns-3 c = message_long _ _ _ _ _ c.before.before.before.if1.false (typed c.before) c.if3.true
 
 returns-4 : tie.Need-returns-4
-returns-4 c = room-wrong _ _ _ _ _ c.before.before.before.before.if1.false (typed c.before.before) c.before.if3.false c.if4.true
+returns-4 c = room_wrong _ _ _ _ _ c.before.before.before.before.if1.false (typed c.before.before) c.before.if3.false c.if4.true
 
 returns-5 : tie.Need-returns-5
 returns-5 c =
-    page-wrong _ _ _ _ _ c.before.before.before.before.before.before.before.if1.false
+    page_wrong _ _ _ _ _ c.before.before.before.before.before.before.before.if1.false
     (typed c.before.before.before.before.before) c.before.before.before.before.if3.false
-    c.before.before.before.if4.false (not-counted _ (sym c.before.before.count.ensures ∙ c.enum_told.given.1))
+    c.before.before.before.if4.false (not_counted _ (sym c.before.before.count.ensures ∙ c.enum_told.given.1))
 
 returns-6 : tie.Need-returns-6
 returns-6 c =
-    not-stored _ _ _ _ _ c.before.before.before.before.before.before.before.before.before.if1.false
+    not_stored _ _ _ _ _ c.before.before.before.before.before.before.before.before.before.if1.false
     (typed c.before.before.before.before.before.before.before) c.before.before.before.before.before.before.if3.false
     c.before.before.before.before.before.if4.false (tallied c.before.before).0 (λ h. let z = c.if5.true in let o = h.0.0 in omega arith)
 
 returns-7 : tie.Need-returns-7
 returns-7 c =
-    not-stored _ _ _ _ _ c.before.before.before.before.before.before.before.before.before.before.if1.false
+    not_stored _ _ _ _ _ c.before.before.before.before.before.before.before.before.before.before.if1.false
     (typed c.before.before.before.before.before.before.before.before)
     c.before.before.before.before.before.before.before.if3.false c.before.before.before.before.before.before.if4.false
     (tallied c.before.before.before).0 (λ h. omega (arith, (tallied c.before.before.before).1, h.1, c.if6.true))
@@ -62,7 +62,7 @@ returns-8 c =
     t.0 (
       (
         omega arith,
-        omega (arith, e, used-most a.page.now),
+        omega (arith, e, used_most a.page.now),
       ),
       e,
     )

@@ -1,6 +1,6 @@
 -- Each kind of call, by its law.
 use borrow.Author.Rules.{rules}
-use Rattle.promises.proofs.Calls.{call-reserves, call-marks, call-signs}
+use Rattle.promises.proofs.Calls.{call_reserves, call_marks, call_signs}
 use Rattle.promises.proofs.call.Statement.{statement}
 use Rattle.promises.proofs.call.Tie as tie
 
@@ -26,13 +26,13 @@ same_length : tie.Need-same-length
 same_length c = search rules
 
 returns : tie.Need-returns
-returns c = call-reserves _ _ _ _ _ _ _ c.before.before.enum_told.given.1 c.reserve.ensures
+returns c = call_reserves _ _ _ _ _ _ _ c.before.before.enum_told.given.1 c.reserve.ensures
 
 same-length-2 : tie.Need-same-length-2
 same-length-2 c = search rules
 
 returns-2 : tie.Need-returns-2
-returns-2 c = call-marks _ _ _ _ _ _ _ _ c.before.before.before.before.enum-told2.given.1 c.before.before.mark.ensures
+returns-2 c = call_marks _ _ _ _ _ _ _ _ c.before.before.before.before.enum-told2.given.1 c.before.before.mark.ensures
 
 same-length-3 : tie.Need-same-length-3
 same-length-3 c = search rules
@@ -41,7 +41,7 @@ same-length-4 : tie.Need-same-length-4
 same-length-4 c = search rules
 
 returns-3 : tie.Need-returns-3
-returns-3 c = call-signs _ _ _ _ _ _ _ _ c.before.before.before.before.before.enum-told3.given.1 c.before.before.sign.ensures
+returns-3 c = call_signs _ _ _ _ _ _ _ _ c.before.before.before.before.before.enum-told3.given.1 c.before.before.sign.ensures
 
 pub call-spec : {M : Type 1} → statement M
 call-spec =

@@ -1,13 +1,13 @@
 -- What the definition of checking gives, by the law `numbers`.
 use borrow.Author.Rules.{rules}
 use Rattle.keyed.specs.Suites.{suite}
-use Rattle.operations.specs.Check.{checkOf}
+use Rattle.operations.specs.Check.{check_of}
 use Rattle.promises.proofs.Checking.{numbers}
 use Rattle.promises.proofs.checking_gives_each_number_exactly.Statement.{statement}
 use Rattle.promises.proofs.checking_gives_each_number_exactly.Tie as tie
 
 returns : tie.Need-returns
-unfolding checkOf
+unfolding check_of
 returns c = rw c.check.ensures (numbers suite _ _ _)
 
 pub checking-gives-each-number-exactly-spec : {M : Type 1} → statement M

@@ -1,4 +1,4 @@
--- By the law `mark-changes`, for a page of bytes.
+-- By the law `mark_changes`, for a page of bytes.
 use mathlib.Core.Path.{◌≡◌, sym, subst}
 use Prim.Native.Nat.{◌-◌}
 use native.Mathlib.Omega.{arith}
@@ -6,7 +6,7 @@ use Rattle.lists.specs.Bytes.{Bytes}
 use Rattle.marks.specs.Page.{used}
 use Rattle.marks.specs.Marking.{MarkEnd}
 use Rattle.marks.specs.Shown.{OneMark}
-use Rattle.marks.proofs.Marking.{mark-changes}
+use Rattle.marks.proofs.Marking.{mark_changes}
 use borrow.Author.Rules.{rules}
 use Rattle.promises.proofs.marking_uses_one_mark.Statement.{statement}
 use Rattle.promises.proofs.marking_uses_one_mark.Tie as tie
@@ -22,7 +22,7 @@ unfolding Bytes
 returns c =
     let a = c.before.before.before.before.before.args in
     let e = c.before.before.mark.ensures in
-    subst (λ (x : MarkEnd). x.answer.outcome ≡ 0 → used a.page.now ≡ a.session - 1 → OneMark (a.session - 1) a.page.now x.page) (sym e) (mark-changes a.page.now a.session (λ i. omega (arith, c.before.before.before.before.slice-known.given i)))
+    subst (λ (x : MarkEnd). x.answer.outcome ≡ 0 → used a.page.now ≡ a.session - 1 → OneMark (a.session - 1) a.page.now x.page) (sym e) (mark_changes a.page.now a.session (λ i. omega (arith, c.before.before.before.before.slice-known.given i)))
 
 pub marking-uses-one-mark-spec : {M : Type 1} → statement M
 marking-uses-one-mark-spec = tie.close (tie.spec mark-requires same_length returns)

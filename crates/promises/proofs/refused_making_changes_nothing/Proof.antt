@@ -1,7 +1,7 @@
 -- A refusal of the definition keeps both buffers.
 use mathlib.Core.Path.{◌≡◌, sym, subst}
 use Rattle.operations.specs.Make.{MakeEnd}
-use Rattle.promises.proofs.Making.{make-refused}
+use Rattle.promises.proofs.Making.{make_refused}
 use borrow.Author.Rules.{rules}
 use Rattle.promises.proofs.refused_making_changes_nothing.Statement.{statement}
 use Rattle.promises.proofs.refused_making_changes_nothing.Tie as tie
@@ -19,7 +19,7 @@ returns : tie.Need-returns
 returns c =
     let a = c.before.before.before.before.before.before.before.before.before.before.args in
     let e = c.before.before.before.before.make.ensures in
-    subst (λ (x : MakeEnd). (x.answer.outcome ≡ 0 → ⊥) → (x.secret ≡ a.secret.now) × (x.key ≡ a.key.now)) (sym e) (make-refused a.kind a.material.now a.secret.now a.key.now)
+    subst (λ (x : MakeEnd). (x.answer.outcome ≡ 0 → ⊥) → (x.secret ≡ a.secret.now) × (x.key ≡ a.key.now)) (sym e) (make_refused a.kind a.material.now a.secret.now a.key.now)
 
 pub refused-making-changes-nothing-spec : {M : Type 1} → statement M
 refused-making-changes-nothing-spec =

@@ -1,7 +1,7 @@
 -- A refusal of the definition keeps the buffer.
 use mathlib.Core.Path.{◌≡◌, sym, subst}
 use Rattle.operations.specs.Sign.{SignEnd}
-use Rattle.promises.proofs.Signing.{sign-refused}
+use Rattle.promises.proofs.Signing.{sign_refused}
 use borrow.Author.Rules.{rules}
 use Rattle.promises.proofs.refused_signing_changes_nothing.Statement.{statement}
 use Rattle.promises.proofs.refused_signing_changes_nothing.Tie as tie
@@ -16,7 +16,7 @@ returns : tie.Need-returns
 returns c =
     let a = c.before.before.before.before.before.before.before.before.args in
     let e = c.before.before.sign.ensures in
-    subst (λ (x : SignEnd). (x.answer.outcome ≡ 0 → ⊥) → (x.out ≡ a.out.now) × (x.answer.session ≡ a.session)) (sym e) (sign-refused a.secret.now a.page.now a.session a.message.now a.out.now)
+    subst (λ (x : SignEnd). (x.answer.outcome ≡ 0 → ⊥) → (x.out ≡ a.out.now) × (x.answer.session ≡ a.session)) (sym e) (sign_refused a.secret.now a.page.now a.session a.message.now a.out.now)
 
 pub refused-signing-changes-nothing-spec : {M : Type 1} → statement M
 refused-signing-changes-nothing-spec = tie.close (tie.spec sign-requires same_length returns)

@@ -2,8 +2,8 @@
 use mathlib.Core.Path.{◌≡◌, refl}
 use lib.ListN.{length}
 use Rattle.lists.specs.Bytes.{to_byte}
-use Rattle.lists.proofs.Numbers.{length-toByte}
-use Rattle.records.proofs.Pasted.{filled, three-parts}
+use Rattle.lists.proofs.Numbers.{length-to_byte}
+use Rattle.records.proofs.Pasted.{filled, three_parts}
 use borrow.Author.Rules.{rules}
 use Rattle.records.proofs.write_key.Statement.{statement}
 use Rattle.records.proofs.write_key.Tie as tie
@@ -19,10 +19,10 @@ returns c =
     let ez : c.before.before.write-value2.new.0 ≡ s.args.public =
     filled _ _ _ c.before.before.write-value2.auto.0 c.before.before.write-value2.ensures (search rules) in
     let lr : length s.args.root ≡ 32 = search rules in
-    three-parts s.args.out.now
+    three_parts s.args.out.now
     c.before.before.before.before.before.before.before.before.before.before.write-number.new.0
     c.before.before.before.before.before.before.write-value.new.0
-    c.before.before.write-value2.new.0 _ _ _ 4 32 32 36 ex ey ez (length-toByte 1 4) lr refl s.requires
+    c.before.before.write-value2.new.0 _ _ _ 4 32 32 36 ex ey ez (length-to_byte 1 4) lr refl s.requires
 
 pub write-key-spec : {M : Type 1} → statement M
 write-key-spec =

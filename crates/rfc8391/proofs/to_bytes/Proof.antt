@@ -2,7 +2,7 @@
 use Prim.Native.Nat.{◌-◌}
 use mathlib.Core.Path.{sym}
 use borrow.Author.Rules.{rules}
-use Rattle.lists.proofs.Numbers.{toByte-small}
+use Rattle.lists.proofs.Numbers.{to_byte_small}
 use Rattle.lists.specs.Bytes.{to_byte}
 use Rattle.rfc8391.proofs.to_bytes.Statement.{statement}
 use Rattle.rfc8391.proofs.to_bytes.Tie as tie
@@ -33,7 +33,7 @@ array-write-out-4 c = search rules
 
 returns : tie.Need-returns
 unfolding to_byte
-returns c = sym (toByte-small c.args.x 4 28 (search rules))
+returns c = sym (to_byte_small c.args.x 4 28 (search rules))
 
 pub to-bytes-spec : {M : Type 1} → statement M
 to-bytes-spec =

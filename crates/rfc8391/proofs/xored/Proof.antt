@@ -6,7 +6,7 @@ use Prim.Native.Nat.{◌-◌}
 use mathlib.Core.Path.{refl}
 use borrow.Author.Rules.{rules}
 use Rattle.rfc8391.specs.Suite.{xor}
-use Rattle.lists.proofs.Filling.{filling-start, filling-more, filling-end}
+use Rattle.lists.proofs.Filling.{filling_start, filling_more, filling_end}
 use Rattle.lists.specs.Loops.{Filling}
 use Rattle.rfc8391.proofs.xored.Statement.{statement}
 use Rattle.rfc8391.proofs.xored.Tie as tie
@@ -18,7 +18,7 @@ abbrev decreases-loop : tie.decreases-loop
 decreases-loop x y out₀ i₀ out i = 32 - i
 
 loop-holds : tie.Need-loop-init invariant-loop decreases-loop
-loop-holds c = filling-start 32 _ (replicate 32 0) refl
+loop-holds c = filling_start 32 _ (replicate 32 0) refl
 
 array-read-out : tie.Need-array-read-out invariant-loop decreases-loop
 array-read-out c = search rules
@@ -36,11 +36,11 @@ loop-less : tie.Need-loop-smaller invariant-loop decreases-loop
 loop-less c = search rules
 
 loop-again : tie.Need-loop-preserved invariant-loop decreases-loop
-loop-again c = filling-more 32 _ _ _ _ refl (omega arith) c.before.loop.invariant
+loop-again c = filling_more 32 _ _ _ _ refl (omega arith) c.before.loop.invariant
 
 returns : tie.Need-returns invariant-loop decreases-loop
 unfolding xor
-returns c = filling-end 32 _ _ _ (omega arith) c.before.loop.invariant
+returns c = filling_end 32 _ _ _ (omega arith) c.before.loop.invariant
 
 pub xored-spec : {M : Type 1} → statement M
 xored-spec =

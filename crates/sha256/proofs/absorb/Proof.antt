@@ -1,7 +1,7 @@
 -- After i turns of the loop, i blocks are hashed.
 use Rattle.std.proofs.Common.{◌≡◌, ◌-◌, ◌/◌, ◌≤◌, length, ap, ◌∙◌, arith, rules}
 use Rattle.sha256.specs.Sha256.{compressed, hashed}
-use Rattle.lists.proofs.Turns.{turns-start, turns_more}
+use Rattle.lists.proofs.Turns.{turns_start, turns_more}
 use Rattle.sha256.proofs.absorb.Statement.{statement}
 use Rattle.sha256.proofs.absorb.Tie as tie
 
@@ -13,7 +13,7 @@ decreases-loop m n v₀ i₀ v i = n - i
 
 loop-holds : tie.Need-loop-init invariant-loop decreases-loop
 unfolding hashed
-loop-holds c = (omega arith, turns-start _ _)
+loop-holds c = (omega arith, turns_start _ _)
 
 block-at-requires : tie.Need-block-at-requires invariant-loop decreases-loop
 block-at-requires c κs = search rules

@@ -1,7 +1,7 @@
 -- After t rounds, four more.
 use Rattle.std.proofs.Common.{◌≡◌, ◌-◌, ◌%◌, ◌≤◌, refl, ap, ◌∙◌, arith, rules}
 use Rattle.sha256.specs.Sha256.{K, rounds}
-use Rattle.lists.proofs.Turns.{turns-start, turns-add}
+use Rattle.lists.proofs.Turns.{turns_start, turns_add}
 use Rattle.lists.specs.Lists.{turns}
 use Rattle.sha256.proofs.all_rounds.Statement.{statement}
 use Rattle.sha256.proofs.all_rounds.Tie as tie
@@ -14,7 +14,7 @@ decreases-loop w k v₀ t₀ v t = 64 - t
 
 loop-holds : tie.Need-loop-init invariant-loop decreases-loop
 unfolding rounds
-loop-holds c = (omega arith, refl, turns-start _ _)
+loop-holds c = (omega arith, refl, turns_start _ _)
 
 four-rounds-requires : tie.Need-four-rounds-requires invariant-loop decreases-loop
 four-rounds-requires c κs = search rules
@@ -29,7 +29,7 @@ loop-again : tie.Need-loop-preserved invariant-loop decreases-loop
 unfolding rounds K
 loop-again c =
     let l = c.before.before.before.before.loop in
-    (omega arith, omega arith, c.four-rounds.ensures ∙ ap (turns 4 _) l.invariant.2 ∙ turns-add l.t 4 _ _)
+    (omega arith, omega arith, c.four-rounds.ensures ∙ ap (turns 4 _) l.invariant.2 ∙ turns_add l.t 4 _ _)
 
 returns : tie.Need-returns invariant-loop decreases-loop
 returns c =

@@ -1,6 +1,6 @@
 -- Each byte of 8 * n, by the powers of two that n is divided by.
 use Rattle.std.proofs.Common.{◌≡◌, ◌-◌, ◌*◌, ◌/◌, ◌%◌, arith, rules}
-use Rattle.sha256.proofs.Endings.{byte-of-bits}
+use Rattle.sha256.proofs.Endings.{byte_of_bits}
 use Rattle.lists.specs.Bytes.{to_byte}
 use Rattle.sha256.proofs.bit_length.Statement.{statement}
 use Rattle.sha256.proofs.bit_length.Tie as tie
@@ -37,7 +37,7 @@ unfolding to_byte
 returns c =
     let n = c.args.n in
     let e : n % 0x20 * 8 ≡ 8 * n / 1 % 256 = omega arith in
-    rw (byte-of-bits n 0x20_0000_0000_0000, byte-of-bits n 0x2000_0000_0000, byte-of-bits n 0x20_0000_0000, byte-of-bits n 0x2000_0000, byte-of-bits n 0x20_0000, byte-of-bits n 0x2000, byte-of-bits n 0x20, e)
+    rw (byte_of_bits n 0x20_0000_0000_0000, byte_of_bits n 0x2000_0000_0000, byte_of_bits n 0x20_0000_0000, byte_of_bits n 0x2000_0000, byte_of_bits n 0x20_0000, byte_of_bits n 0x2000, byte_of_bits n 0x20, e)
 
 pub bit-length-spec : {M : Type 1} → statement M
 bit-length-spec =

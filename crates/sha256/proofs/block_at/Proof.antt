@@ -2,7 +2,7 @@
 use Rattle.std.proofs.Common.{◌+◌, ◌-◌, ◌*◌, replicate, refl, arith, rules}
 use Rattle.sha256.specs.Sha256.{block}
 use Rattle.lists.specs.Bytes.{number}
-use Rattle.lists.proofs.Filling.{filling-start, filling-more, filling-end}
+use Rattle.lists.proofs.Filling.{filling_start, filling_more, filling_end}
 use Rattle.lists.specs.Loops.{Filling}
 use Rattle.sha256.proofs.block_at.Statement.{statement}
 use Rattle.sha256.proofs.block_at.Tie as tie
@@ -14,7 +14,7 @@ abbrev decreases-loop : tie.decreases-loop
 decreases-loop m i w₀ j₀ w j = 16 - j
 
 loop-holds : tie.Need-loop-init invariant-loop decreases-loop
-loop-holds c = filling-start 16 _ (replicate 16 0) refl
+loop-holds c = filling_start 16 _ (replicate 16 0) refl
 
 mul-big-endian : tie.Need-overflow-mul-big-endian invariant-loop decreases-loop
 mul-big-endian c = search rules
@@ -41,11 +41,11 @@ loop-less : tie.Need-loop-smaller invariant-loop decreases-loop
 loop-less c = search rules
 
 loop-again : tie.Need-loop-preserved invariant-loop decreases-loop
-loop-again c = filling-more 16 _ _ _ _ c.big_endian.ensures (omega arith) c.before.before.loop.invariant
+loop-again c = filling_more 16 _ _ _ _ c.big_endian.ensures (omega arith) c.before.before.loop.invariant
 
 returns : tie.Need-returns invariant-loop decreases-loop
 unfolding block
-returns c = filling-end 16 _ _ _ (omega arith) c.before.loop.invariant
+returns c = filling_end 16 _ _ _ (omega arith) c.before.loop.invariant
 
 pub block-at-spec : {M : Type 1} → statement M
 block-at-spec =

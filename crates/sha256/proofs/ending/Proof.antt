@@ -1,7 +1,7 @@
 -- The bytes of m, the byte 0x80 and the bit length, pasted into zeros.
 use Rattle.std.proofs.Common.{◌≡◌, ℕ, ◌-◌, List, length, set, replicate, arith, rules}
 use lib.Seq.{paste}
-use Rattle.sha256.proofs.Endings.{ending-pasted}
+use Rattle.sha256.proofs.Endings.{ending_pasted}
 use Rattle.sha256.proofs.ending.Statement.{statement}
 use Rattle.sha256.proofs.ending.Tie as tie
 
@@ -25,7 +25,7 @@ returns c =
     let b : length a.t3 ≡ 8 = search rules in
     let x : c.paste-in2.result ≡ paste (set p.result (length m) 0x80) a.size a.t3 8 = rw b at c.paste-in2.ensures in
     let y : p.result ≡ paste (replicate 128 0) 0 m (length m) = p.ensures in
-    rw (x, y) (rw b at (ending-pasted 128 m a.t3 a.size (omega arith) (omega arith)))
+    rw (x, y) (rw b at (ending_pasted 128 m a.t3 a.size (omega arith) (omega arith)))
 
 pub ending-spec : {M : Type 1} → statement M
 ending-spec =

@@ -1,7 +1,7 @@
 -- The whole blocks, then the padded rest: one block where the length has room behind it, or two.
 use Rattle.std.proofs.Common.{◌≡◌, ℕ, ◌-◌, List, length, take, sym, refl, ap, ◌∙◌, arith, length-take-le, take_all, rules}
 use Rattle.sha256.specs.Sha256.{hashed, digest}
-use Rattle.sha256.proofs.Endings.{finished-by}
+use Rattle.sha256.proofs.Endings.{finished_by}
 use Rattle.sha256.proofs.finish.Statement.{statement}
 use Rattle.sha256.proofs.finish.Tie as tie
 
@@ -78,7 +78,7 @@ returns c =
     let n : length p ≡ 128 = c.before.before.before.ending.type-inv.1.0.1 in
     let x : c.before.absorb2.result ≡ hashed 1 v.result (take 64 p) = rw (length-take-le 64 p (omega arith)) at c.before.absorb2.ensures in
     c.digest-of.ensures ∙ ap digest x
-    ∙ finished-by _ v.result _ m p _ _ 56 1 v.ensures c.before.before.before.before.before.before.before.wrapping-add-usize.ensures c.before.before.before.before.before.before.bit_length.ensures refl (omega arith) (omega arith) _ refl c.before.before.before.ending.ensures
+    ∙ finished_by _ v.result _ m p _ _ 56 1 v.ensures c.before.before.before.before.before.before.before.wrapping-add-usize.ensures c.before.before.before.before.before.before.bit_length.ensures refl (omega arith) (omega arith) _ refl c.before.before.before.ending.ensures
 
 returns-2 : tie.Need-returns-2
 returns-2 c =
@@ -88,7 +88,7 @@ returns-2 c =
     let n : length p ≡ 128 = c.before.before.before.ending2.type-inv.1.0.1 in
     let x : c.before.absorb3.result ≡ hashed 2 v.result (take 128 p) = rw (take_all 128 p (omega arith)) (rw n at c.before.absorb3.ensures) in
     c.digest-of2.ensures ∙ ap digest x
-    ∙ finished-by _ v.result _ m p _ _ 120 2 v.ensures c.before.before.before.before.before.before.before.wrapping-add-usize.ensures c.before.before.before.before.before.before.bit_length.ensures refl (omega arith) (omega arith) _ refl c.before.before.before.ending2.ensures
+    ∙ finished_by _ v.result _ m p _ _ 120 2 v.ensures c.before.before.before.before.before.before.before.wrapping-add-usize.ensures c.before.before.before.before.before.before.bit_length.ensures refl (omega arith) (omega arith) _ refl c.before.before.before.ending2.ensures
 
 pub finish_spec : {M : Type 1} → statement M
 finish_spec =

@@ -2,7 +2,7 @@
 use Rattle.std.proofs.Common.{◌≡◌, ℕ, ◌+◌, ◌-◌, get_or, add-zero, rules}
 use Rattle.sha256.specs.Sha256.{round}
 use Rattle.sha256.specs.declared.State.{State}
-use Rattle.lists.proofs.Turns.{turns-start, turns_more}
+use Rattle.lists.proofs.Turns.{turns_start, turns_more}
 use Rattle.lists.specs.Lists.{turns}
 use Rattle.sha256.proofs.four_rounds.Statement.{statement}
 use Rattle.sha256.proofs.four_rounds.Tie as tie
@@ -90,7 +90,7 @@ returns c =
     let a = c.before.before.before.before.before.before.before.before.before.before.before.before.args in
     let f : ℕ → State → State = λ i x. round x (get_or a.k.now (a.t + i) 0) (get_or a.w.now (a.t + i) 0) in
     let r : c.before.before.before.before.before.before.before.before.before.one-round.result ≡ f 0 a.v = rw (add-zero a.t) c.before.before.before.before.before.before.before.before.before.one-round.ensures in
-    let e1 : c.before.before.before.before.before.before.before.before.before.one-round.result ≡ turns 1 f a.v = turns_more 0 f a.v (turns-start f a.v) r in
+    let e1 : c.before.before.before.before.before.before.before.before.before.one-round.result ≡ turns 1 f a.v = turns_more 0 f a.v (turns_start f a.v) r in
     let e2 : c.before.before.before.before.before.before.one-round2.result ≡ turns 2 f a.v = turns_more 1 f a.v e1 c.before.before.before.before.before.before.one-round2.ensures in
     let e3 : c.before.before.before.one-round3.result ≡ turns 3 f a.v = turns_more 2 f a.v e2 c.before.before.before.one-round3.ensures in
     turns_more 3 f a.v e3 c.one-round4.ensures

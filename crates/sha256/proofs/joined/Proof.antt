@@ -1,6 +1,6 @@
 -- After i turns of the loop, i bytes of each half are laid.
 use Rattle.std.proofs.Common.{◌-◌, replicate, refl, arith, rules}
-use Rattle.lists.proofs.Joining.{joining-start, joining-more, joining-end}
+use Rattle.lists.proofs.Joining.{joining_start, joining_more, joining_end}
 use Rattle.lists.specs.Loops.{Joining}
 use Rattle.sha256.proofs.joined.Statement.{statement}
 use Rattle.sha256.proofs.joined.Tie as tie
@@ -12,7 +12,7 @@ abbrev decreases-loop : tie.decreases-loop
 decreases-loop a b m₀ i₀ m i = 32 - i
 
 loop-holds : tie.Need-loop-init invariant-loop decreases-loop
-loop-holds c = joining-start 32 c.args.t1 c.args.t2 (replicate 64 0) refl
+loop-holds c = joining_start 32 c.args.t1 c.args.t2 (replicate 64 0) refl
 
 array-read-m : tie.Need-array-read-m invariant-loop decreases-loop
 array-read-m c = search rules
@@ -36,10 +36,10 @@ loop-less : tie.Need-loop-smaller invariant-loop decreases-loop
 loop-less c = search rules
 
 loop-again : tie.Need-loop-preserved invariant-loop decreases-loop
-loop-again c = joining-more 32 _ _ _ _ 0 (search rules) (search rules) (omega arith) c.before.loop.invariant
+loop-again c = joining_more 32 _ _ _ _ 0 (search rules) (search rules) (omega arith) c.before.loop.invariant
 
 returns : tie.Need-returns invariant-loop decreases-loop
-returns c = joining-end 32 _ _ _ _ (search rules) (search rules) (omega arith) c.before.loop.invariant
+returns c = joining_end 32 _ _ _ _ (search rules) (search rules) (omega arith) c.before.loop.invariant
 
 pub joined-spec : {M : Type 1} → statement M
 joined-spec =

@@ -1,6 +1,6 @@
 -- The loop stores word t behind the words before it.
 use Rattle.std.proofs.Common.{◌≡◌, ◌-◌, ◌≤◌, length, take, sym, refl, ◌∙◌, arith, length-set, take_all, rules}
-use Rattle.sha256.proofs.Schedule.{schedule-more}
+use Rattle.sha256.proofs.Schedule.{schedule_more}
 use Rattle.sha256.specs.Sha256.{word, schedule}
 use Rattle.lists.specs.Lists.{turns}
 use Rattle.sha256.proofs.message_schedule.Statement.{statement}
@@ -77,7 +77,7 @@ loop-again c =
       omega arith,
       omega arith,
       simp length-set l.invariant.2,
-      schedule-more l.w _ l.t c.next_word.result (omega arith) (omega arith) l.invariant.3 c.next_word.ensures,
+      schedule_more l.w _ l.t c.next_word.result (omega arith) (omega arith) l.invariant.3 c.next_word.ensures,
     )
 
 returns : tie.Need-returns invariant-loop decreases-loop

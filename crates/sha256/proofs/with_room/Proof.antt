@@ -1,7 +1,7 @@
 -- The loop fills the first 16 of 64 words with the block's.
 use Rattle.std.proofs.Common.{◌≡◌, ◌-◌, ◌≤◌, get_or, replicate, refl, ◌∙◌, arith, rules}
-use Rattle.lists.proofs.Tabs.{tab-getD}
-use Rattle.lists.proofs.Filling.{filling-start, filling-more}
+use Rattle.lists.proofs.Tabs.{tab-get_or}
+use Rattle.lists.proofs.Filling.{filling_start, filling_more}
 use Rattle.lists.specs.Loops.{Filling}
 use Rattle.sha256.proofs.with_room.Statement.{statement}
 use Rattle.sha256.proofs.with_room.Tie as tie
@@ -13,7 +13,7 @@ abbrev decreases-loop : tie.decreases-loop
 decreases-loop b w₀ i₀ w i = 16 - i
 
 loop-holds : tie.Need-loop-init invariant-loop decreases-loop
-loop-holds c = (filling-start 64 _ (replicate 64 0) refl, omega arith)
+loop-holds c = (filling_start 64 _ (replicate 64 0) refl, omega arith)
 
 mul-w : tie.Need-overflow-mul-w invariant-loop decreases-loop
 mul-w c = search rules
@@ -34,14 +34,14 @@ loop-less : tie.Need-loop-smaller invariant-loop decreases-loop
 loop-less c = search rules
 
 loop-again : tie.Need-loop-preserved invariant-loop decreases-loop
-loop-again c = (filling-more 64 _ _ _ _ refl (omega arith) c.before.loop.invariant.0, omega arith)
+loop-again c = (filling_more 64 _ _ _ _ refl (omega arith) c.before.loop.invariant.0, omega arith)
 
 returns : tie.Need-returns invariant-loop decreases-loop
 returns c =
     let l = c.before.loop in
     let b = c.before.before.args.t1 in
     let e : l.i ≡ 16 = omega arith in
-    ((rw e at l.invariant.0.0) ∙ tab-getD 16 b 0 (search rules), l.invariant.0.1)
+    ((rw e at l.invariant.0.0) ∙ tab-get_or 16 b 0 (search rules), l.invariant.0.1)
 
 pub with-room-spec : {M : Type 1} → statement M
 with-room-spec =

@@ -4,7 +4,7 @@ use Prim.Native.Nat.{ℕ, ◌+◌, ◌*◌, ◌≤◌}
 use native.Mathlib.Nat.{mul-le-mul}
 use native.Mathlib.Omega.{arith}
 use borrow.Author.Rules.{rules}
-use Rattle.rfc8391.specs.Formats.{pathStart}
+use Rattle.rfc8391.specs.Formats.{path_start}
 use Rattle.signatures.proofs.path_start.Statement.{statement}
 use Rattle.signatures.proofs.path_start.Tie as tie
 
@@ -20,7 +20,7 @@ add-result-3 : tie.Need-overflow-add-result-3
 add-result-3 c = omega (arith, most c.args.n c.requires)
 
 returns : tie.Need-returns
-unfolding pathStart
+unfolding path_start
 returns c = refl
 
 pub path-start-spec : {M : Type 1} → statement M

@@ -4,13 +4,13 @@ use Prim.Native.Nat.{ℕ, ◌+◌}
 use native.Mathlib.Omega.{arith}
 use lib.ListN.{length, take, drop}
 use Rattle.rfc8391.specs.Suite.{Suite}
-use Rattle.rfc8391.specs.Formats.{valueLength, pathStart, signatureLength}
-use Rattle.rfc8391.proofs.Values.{value-at}
+use Rattle.rfc8391.specs.Formats.{value_length, path_start, signature_length}
+use Rattle.rfc8391.proofs.Values.{value_at}
 use Rattle.keyed.specs.Suites.{suite}
-use Rattle.keyed.specs.Seeds.{suiteOf}
-use Rattle.keyed.proofs.Suites.{suite-length}
-use Rattle.signatures.specs.Recomputed.{rootBy}
-use Rattle.signatures.proofs.Recomputed.{Sizes, sizes-by, values_length, path-length, seed-at, recomputes}
+use Rattle.keyed.specs.Seeds.{suite_of}
+use Rattle.keyed.proofs.Suites.{suite_length}
+use Rattle.signatures.specs.Recomputed.{root_by}
+use Rattle.signatures.proofs.Recomputed.{Sizes, sizes_by, values_length, path_length, seed_at, recomputes}
 use borrow.Author.Rules.{rules}
 use Rattle.signatures.proofs.recomputed_root.Statement.{statement}
 use Rattle.signatures.proofs.recomputed_root.Tie as tie
@@ -21,13 +21,13 @@ sizes : (c : tie.After-path-start)
     (length c.before.before.before.before.before.args.signature.now) c.before.before.before.before.before.args.height
 sizes c =
     let b = c.before.before.before.before.before in
-    sizes-by (valueLength b.args.hash) _ _ _ _ _ c.before.value-length.ensures.0
-    (c.path-start.ensures ∙ ap pathStart c.before.value-length.ensures.0) b.requires.1 b.requires.2
+    sizes_by (value_length b.args.hash) _ _ _ _ _ c.before.value-length.ensures.0
+    (c.path-start.ensures ∙ ap path_start c.before.value-length.ensures.0) b.requires.1 b.requires.2
 
 -- the seed's suite has values of n bytes
-width : (c : tie.After-prepare) → (suiteOf c.prepare.result).n ≡ c.before.before.before.before.value-length.result
+width : (c : tie.After-prepare) → (suite_of c.prepare.result).n ≡ c.before.before.before.before.value-length.result
 width c = ap (λ (S : Suite). S.n) c.prepare.ensures.2
-    ∙ suite-length c.before.before.before.before.before.before.before.before.args.hash
+    ∙ suite_length c.before.before.before.before.before.before.before.before.args.hash
     ∙ sym c.before.before.before.before.value-length.ensures.0
 
 part-value-of-end : tie.Need-slice-bounds-value-of-end
@@ -66,11 +66,11 @@ root-from-signature-requires c κs =
     let g = c.before.before.before.before.before.before.before.before.before.before.before.before in
     let p = c.before.before.before.before.before.before.before.before.before in
     let b = g.before.before.before.before.before in
-    let S = suiteOf p.prepare.result in (
+    let S = suite_of p.prepare.result in (
       p.prepare.ensures.0,
       b.requires.0,
       values_length S _ _ _ _ b.args.signature.now (width p) (sizes g),
-      path-length S _ _ _ _
+      path_length S _ _ _ _
           b.args.signature.now (width p) (sizes g),
     )
 
@@ -83,26 +83,26 @@ returns c =
     let key = b.args.key.now in
     let m = b.args.message.now in
     let sig = b.args.signature.now in
-    let S = suiteOf p.prepare.result in
+    let S = suite_of p.prepare.result in
     let z = sizes g in
     let w : v.result ≡ S.n = sym (width p) in
     let seed : take S.n p.prepare.result.bytes ≡ take S.n (drop (4 + S.n) key) =
-    ap (take S.n) p.prepare.ensures.1 ∙ seed-at S.n _ key _ w (omega (arith, z.key)) p.before.value_of_lem.ensures in
+    ap (take S.n) p.prepare.ensures.1 ∙ seed_at S.n _ key _ w (omega (arith, z.key)) p.before.value_of_lem.ensures in
     let root : take S.n c.before.before.before.before.before.before.before.before.value-of2.result ≡ take S.n (drop 4 key) =
-    value-at S.n _ 4 key _ w (omega (arith, z.key))
+    value_at S.n _ 4 key _ w (omega (arith, z.key))
     c.before.before.before.before.before.before.before.before.value-of2.ensures in
     let r : take S.n c.before.before.before.before.before.before.value-of3.result ≡ take S.n (drop 4 sig) =
-    value-at S.n _ 4 sig _ w (omega (arith, z.sig, z.path))
+    value_at S.n _ 4 sig _ w (omega (arith, z.sig, z.path))
     c.before.before.before.before.before.before.value-of3.ensures in
-    let x : take S.n c.root-from-signature.result ≡ rootBy S S.n b.args.height key m sig =
+    let x : take S.n c.root-from-signature.result ≡ root_by S S.n b.args.height key m sig =
     recomputes S key m sig b.args.height v.result g.path-start.result _ _ _ _ _ _ _ w g.path-start.ensures
-    (b.requires.2 ∙ ap (λ (n : ℕ). signatureLength n b.args.height) (sym v.ensures.0)) seed root r
+    (b.requires.2 ∙ ap (λ (n : ℕ). signature_length n b.args.height) (sym v.ensures.0)) seed root r
     c.before.before.before.before.before.big_endian.ensures c.before.before.before.single-tree.ensures
     c.before.before.before.before.message-digest.ensures c.root-from-signature.ensures in
     ap (λ (n : ℕ). take n c.root-from-signature.result) (sym v.ensures.0 ∙ w)
     ∙ x
-    ∙ ap (λ (T : Suite). rootBy T T.n b.args.height key m sig) p.prepare.ensures.2
-    ∙ ap (λ (n : ℕ). rootBy (suite b.args.hash) n b.args.height key m sig) (suite-length b.args.hash)
+    ∙ ap (λ (T : Suite). root_by T T.n b.args.height key m sig) p.prepare.ensures.2
+    ∙ ap (λ (n : ℕ). root_by (suite b.args.hash) n b.args.height key m sig) (suite_length b.args.hash)
 
 pub recomputed-root-spec : {M : Type 1} → statement M
 recomputed-root-spec =

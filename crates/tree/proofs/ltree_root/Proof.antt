@@ -4,13 +4,13 @@ use lib.Seq.{length-take-le}
 use lib.ListN.{length, take}
 use Prim.Native.Nat.{ℕ, ◌≤◌, ◌-◌, ◌+◌, ◌*◌, ◌/◌}
 use mathlib.Core.Path.{◌≡◌, sym, ap, ◌∙◌}
-use Rattle.lists.proofs.Fronts.{length-fronts, getD-fronts}
+use Rattle.lists.proofs.Fronts.{length-fronts, get_or-fronts}
 use Rattle.rfc8391.specs.Wots.{len}
-use Rattle.keyed.proofs.Suites.{seed-fits}
+use Rattle.keyed.proofs.Suites.{seed_fits}
 use borrow.Author.Rules.{rules}
-use Rattle.tree.proofs.Rounds.{ltree-by}
-use Rattle.keyed.specs.Seeds.{suiteOf, heldAll, seedOf}
-use Rattle.rfc8391.specs.Xmss.{ltreeRound}
+use Rattle.tree.proofs.Rounds.{ltree_by}
+use Rattle.keyed.specs.Seeds.{suite_of, held_all, seed_of}
+use Rattle.rfc8391.specs.Xmss.{ltree_round}
 use Rattle.lists.proofs.Turns.{turns_more}
 use Rattle.lists.specs.Lists.{turns}
 use Rattle.lists.specs.Fronts.{fronts}
@@ -19,8 +19,8 @@ use Rattle.tree.proofs.ltree_root.Tie as tie
 
 abbrev invariant-loop : tie.invariant-loop
 invariant-loop s a v₀ w₀ height₀ v w height =
-    (take w (fronts (suiteOf s).n v) ≡ turns height (λ h l. ltreeRound (suiteOf s) (seedOf s) a h l) (heldAll s v₀)) × (1 ≤ w) ×
-    (height + w ≤ len (suiteOf s)) × (length v ≡ 67)
+    (take w (fronts (suite_of s).n v) ≡ turns height (λ h l. ltree_round (suite_of s) (seed_of s) a h l) (held_all s v₀)) × (1 ≤ w) ×
+    (height + w ≤ len (suite_of s)) × (length v ≡ 67)
 
 abbrev decreases-loop : tie.decreases-loop
 decreases-loop s a v₀ w₀ height₀ v w height = w
@@ -28,7 +28,7 @@ decreases-loop s a v₀ w₀ height₀ v w height = w
 loop-holds : tie.Need-loop-init invariant-loop decreases-loop
 unfolding turns
 loop-holds c = (
-  ap (λ (k : ℕ). take (2 * k + 3) (fronts (suiteOf c.before.args.s).n c.before.args.ends))
+  ap (λ (k : ℕ). take (2 * k + 3) (fronts (suite_of c.before.args.s).n c.before.args.ends))
       c.value-length-of.ensures.0,
   omega arith,
   omega arith,
@@ -36,10 +36,10 @@ loop-holds c = (
 )
 
 ltree-round-requires : tie.Need-ltree-round-requires invariant-loop decreases-loop
-ltree-round-requires c κs = (c.before.before.before.requires, omega (arith, seed-fits c.before.before.before.args.s))
+ltree-round-requires c κs = (c.before.before.before.requires, omega (arith, seed_fits c.before.before.before.args.s))
 
 add-height : tie.Need-overflow-add-height invariant-loop decreases-loop
-add-height c = omega (arith, seed-fits c.before.before.before.before.args.s)
+add-height c = omega (arith, seed_fits c.before.before.before.before.args.s)
 
 loop-again : tie.Need-loop-preserved invariant-loop decreases-loop
 loop-again c =
@@ -51,12 +51,12 @@ returns : tie.Need-returns invariant-loop decreases-loop
 returns c =
     let l = c.before.before.loop in
     let b = c.before.before.before.before in
-    let S = suiteOf b.args.s in
+    let S = suite_of b.args.s in
     let k : length l.v ≡ 67 = l.invariant.3 in
     let e : length b.args.ends ≡ 67 = search rules in
-    sym (getD-fronts S.n l.v 0)
-    ∙ ltree-by S (seedOf b.args.s) b.args.a (heldAll b.args.s b.args.ends) (fronts S.n l.v) l.w l.height
-    (rw (length-take-le (len S) (fronts S.n b.args.ends) (rw length-fronts (omega (arith, seed-fits b.args.s)))) (omega arith))
+    sym (get_or-fronts S.n l.v 0)
+    ∙ ltree_by S (seed_of b.args.s) b.args.a (held_all b.args.s b.args.ends) (fronts S.n l.v) l.w l.height
+    (rw (length-take-le (len S) (fronts S.n b.args.ends) (rw length-fronts (omega (arith, seed_fits b.args.s)))) (omega arith))
     (omega arith) (rw length-fronts (omega arith)) l.invariant.0
 
 pub ltree-root-spec : {M : Type 1} → statement M

@@ -1,6 +1,6 @@
 -- Function 2, whose key is r, the root and the index.
 use borrow.Author.Rules.{rules}
-use Rattle.keyed.proofs.Blocks.{keyed-by-key}
+use Rattle.keyed.proofs.Blocks.{keyed_by_key}
 use Rattle.keyed.proofs.sha2.message_digest.Statement.{statement}
 use Rattle.keyed.proofs.sha2.message_digest.Tie as tie
 
@@ -8,7 +8,7 @@ returns : tie.Need-returns
 returns c =
     let a = c.before.before.before.before.before.args in
     let t = c.before.before.to-bytes in
-    rw (← t.ensures) (keyed-by-key 2 a.r a.root t.result a.message.now _ _ _ (search rules) (search rules) (search rules)
+    rw (← t.ensures) (keyed_by_key 2 a.r a.root t.result a.message.now _ _ _ (search rules) (search rules) (search rules)
     c.before.before.before.keyed-by.ensures c.before.after.ensures c.finish.ensures)
 
 pub message-digest-spec : {M : Type 1} → statement M

@@ -2,7 +2,7 @@
 use mathlib.Core.Path.{◌∙◌, ap}
 use borrow.Author.Rules.{rules}
 use Rattle.rfc8391.specs.declared.Address.{Address}
-use Rattle.rfc8391.specs.Address.{setLTreeAddress}
+use Rattle.rfc8391.specs.Address.{set_ltree_address}
 use Rattle.rfc8391.proofs.Address.ltree_at.Statement.{statement}
 use Rattle.rfc8391.proofs.Address.ltree_at.Tie as tie
 
@@ -13,7 +13,7 @@ set-ltree-address-requires : tie.Need-set-ltree-address-requires
 set-ltree-address-requires c κs = search rules
 
 returns : tie.Need-returns
-returns c = c.set-ltree-address.ensures ∙ ap (λ (a : Address). setLTreeAddress a c.before.before.args.leaf) c.before.set-type.ensures
+returns c = c.set-ltree-address.ensures ∙ ap (λ (a : Address). set_ltree_address a c.before.before.args.leaf) c.before.set-type.ensures
 
 pub ltree-at-spec : {M : Type 1} → statement M
 ltree-at-spec = tie.close (tie.spec set-type-requires set-ltree-address-requires returns)

@@ -2,7 +2,7 @@
 use mathlib.Core.Path.{◌∙◌, ap}
 use borrow.Author.Rules.{rules}
 use Rattle.rfc8391.specs.declared.Address.{Address}
-use Rattle.rfc8391.specs.Address.{setOTSAddress}
+use Rattle.rfc8391.specs.Address.{set_ots_address}
 use Rattle.rfc8391.proofs.Address.ots_at.Statement.{statement}
 use Rattle.rfc8391.proofs.Address.ots_at.Tie as tie
 
@@ -13,7 +13,7 @@ set-ots-address-requires : tie.Need-set-ots-address-requires
 set-ots-address-requires c κs = search rules
 
 returns : tie.Need-returns
-returns c = c.set-ots-address.ensures ∙ ap (λ (a : Address). setOTSAddress a c.before.before.args.leaf) c.before.set-type.ensures
+returns c = c.set-ots-address.ensures ∙ ap (λ (a : Address). set_ots_address a c.before.before.args.leaf) c.before.set-type.ensures
 
 pub ots-at-spec : {M : Type 1} → statement M
 ots-at-spec = tie.close (tie.spec set-type-requires set-ots-address-requires returns)

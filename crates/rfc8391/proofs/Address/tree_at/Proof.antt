@@ -2,7 +2,7 @@
 use mathlib.Core.Path.{◌∙◌, ap}
 use borrow.Author.Rules.{rules}
 use Rattle.rfc8391.specs.declared.Address.{Address}
-use Rattle.rfc8391.specs.Address.{setTreeHeight, setTreeIndex}
+use Rattle.rfc8391.specs.Address.{set_tree_height, set_tree_index}
 use Rattle.rfc8391.proofs.Address.tree_at.Statement.{statement}
 use Rattle.rfc8391.proofs.Address.tree_at.Tie as tie
 
@@ -19,7 +19,7 @@ returns : tie.Need-returns
 returns c =
     let x = c.before.before.before.args in
     c.set-tree-index.ensures
-    ∙ ap (λ (a : Address). setTreeIndex a x.position) (c.before.set-tree-height.ensures ∙ ap (λ (a : Address). setTreeHeight a x.height) c.before.before.set-type.ensures)
+    ∙ ap (λ (a : Address). set_tree_index a x.position) (c.before.set-tree-height.ensures ∙ ap (λ (a : Address). set_tree_height a x.height) c.before.before.set-type.ensures)
 
 pub tree-at-spec : {M : Type 1} → statement M
 tree-at-spec =
