@@ -1,6 +1,9 @@
 // Runs a script of calls on the operations and on SHA-256; a line a call: its name, the answer, each buffer lent for writing.
 // Uses the operations and what lies below them, and the kit's io.
 // tests/reference/calls.py writes the script: the bytes from which every message is the first so many, and then the calls.
+
+#![tactic(auto)]
+
 ghost use Rattle.std.specs.Prelude.{◌+◌, ◌≤◌, length};
 
 use libc::{STDIN_FILENO, STDOUT_FILENO};

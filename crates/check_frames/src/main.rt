@@ -1,6 +1,9 @@
 // Checks frames from standard input, a line each, and prints the outcomes: it only reads, hands over and writes.
 // Uses frames, which says what an input prints, and the kit's io.
 // The customer runs it; the files stdin and stdout here hold the whole run of the customer's paper.
+
+#![tactic(auto)]
+
 use libc::{STDIN_FILENO, STDOUT_FILENO};
 
 // Turns of 4,096 bytes, so that every run ends: 2^52 bytes, and never more lines than a u64 counts.

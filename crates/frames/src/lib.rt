@@ -1,6 +1,9 @@
 // The checking program between reading and writing: a step on characters, over buffers that the caller lends.
 // Uses checking, lines and the kit's bytes. What it prints for a whole input stands in specs/Frames.antt, line by line.
 // The program check_frames stands on it.
+
+#![tactic(auto)]
+
 ghost use Rattle.std.specs.Prelude.{◌≡◌, List, [], ℕ, ◌+◌, ◌*◌, ◌≤◌, ◌<◌, ◌^◌, length, take};
 ghost use Rattle.lists.specs.Lists.{flat};
 ghost use Rattle.lines.specs.Steps.{after, run_of};
@@ -11,14 +14,14 @@ ghost use Rattle.frames.specs.Buffers.{latest_in, sess, start_state, ended_as, r
 use lines::Line;
 
 // How many bytes of their two buffers the latest key and message take.
-#[derive(Drop)]
+#[derive(Clone, Copy)]
 pub struct Kept {
     pub key: usize,
     pub message: usize,
 }
 
 // The run so far: besides key and message the line so far, how many lines ended, and whether one has begun.
-#[derive(Drop)]
+#[derive(Clone, Copy)]
 pub struct State {
     pub kept: Kept,
     pub line: Line,
@@ -27,20 +30,20 @@ pub struct State {
 }
 
 // What a line that ended has to say.
-#[derive(Drop)]
+#[derive(Clone, Copy)]
 pub enum Told {
     Nothing,
     Outcome(u32),
 }
 
-#[derive(Drop)]
+#[derive(Clone, Copy)]
 pub struct Ended {
     pub kept: Kept,
     pub told: Told,
 }
 
 // The state after some input, and how many bytes of output there are.
-#[derive(Drop)]
+#[derive(Clone, Copy)]
 pub struct Moved {
     pub state: State,
     pub n: usize,

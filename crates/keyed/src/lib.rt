@@ -1,6 +1,9 @@
 // F, H, PRF and the message hash of RFC 8391 by the hash of a key type, a file a suite, and seeds that are prepared once.
 // Uses sha256 and rfc8391.
 // Everything that hashes uses it. A seed carries its hash, and contracts above speak of suite_of a seed: another hash changes nothing there.
+
+#![tactic(auto)]
+
 ghost use Rattle.std.specs.Prelude.{◌≡◌, ◌++◌, ◌≤◌};
 ghost use Rattle.rfc8391.specs.Xmss.{message_digest};
 ghost use Rattle.rfc8391.specs.Formats.{value_length};
@@ -22,7 +25,7 @@ pub fn value_length(hash: Hash) -> usize
 }
 
 // A seed, with the hash value after the block that never changes: one compression less for every key and mask.
-#[derive(Drop)]
+#[derive(Clone, Copy)]
 pub struct Seed {
     pub hash: Hash,
     pub bytes: [u8; 32],

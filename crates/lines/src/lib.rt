@@ -1,6 +1,9 @@
 // Lines of hexadecimal digits as they come in, and of decimal numbers as they go out; the law of chunks, over any answer to a line.
 // Uses lists, and the kit's bytes and io.
 // Programs that answer lines stand on it.
+
+#![tactic(auto)]
+
 ghost use Rattle.std.specs.Prelude.{◌≡◌, [], ◌∷◌, ◌++◌, ◌+◌, ◌≤◌, length, take};
 ghost use Rattle.lines.specs.Lines.{hex_digit};
 ghost use Rattle.lines.specs.Decimal.{decimal, numbers_line};
@@ -8,7 +11,7 @@ ghost use Rattle.lines.specs.Reading.{fresh_line, read, put_of};
 
 // The line so far: len bytes in a buffer that the caller keeps, a high half that waits for its low half (16: none waits),
 // and whether it can no longer be read. So a line of any length needs no more than the buffer.
-#[derive(Drop)]
+#[derive(Clone, Copy)]
 pub struct Line {
     pub len: usize,
     pub high: u8,

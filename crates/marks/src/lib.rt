@@ -1,12 +1,15 @@
 // The page of marks: which indices of a key are used, the next one reserved, and its mark stored before signing.
 // Uses the numbered outcomes and the laws of lists.
 // Signing counts marks by it; reserving and marking are exported as they are.
+
+#![tactic(auto)]
+
 ghost use Rattle.std.specs.Prelude.{◌≡◌, false, ◌-◌, ◌^◌, ◌<◌};
 ghost use Rattle.marks.specs.Page.{bit_used, cleared};
 ghost use Rattle.marks.specs.Marking.{byte_count, count_of, reserved, reserve_of, mark_end, mark_of};
 
 // How many marks are used, or that what was counted is not well formed.
-#[derive(Drop)]
+#[derive(Clone, Copy)]
 pub enum Tally {
     Used(u32),
     Bad,
@@ -14,7 +17,7 @@ pub enum Tally {
 
 // What reserving answers: the session for the first unused index, the place of its byte and the byte's new value.
 #[repr(C)]
-#[derive(Drop)]
+#[derive(Clone, Copy)]
 pub struct Reserved {
     pub outcome: u32,
     pub session: u32,
@@ -24,7 +27,7 @@ pub struct Reserved {
 
 // What marking answers; the page is changed in place.
 #[repr(C)]
-#[derive(Drop)]
+#[derive(Clone, Copy)]
 pub struct Marked {
     pub outcome: u32,
     pub session: u32,

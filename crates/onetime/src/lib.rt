@@ -1,6 +1,9 @@
 // WOTS+, the one-time scheme of RFC 8391: digits, chains, secret values by our rule.
 // Uses keyed and what lies below it.
 // The trees and the signatures use it.
+
+#![tactic(auto)]
+
 ghost use Rattle.std.specs.Prelude.{◌≡◌, ◌++◌, ◌+◌, ◌-◌, ◌*◌, ◌/◌, ◌%◌, ◌^◌, ◌<◌, ◌≤◌, length, get_or, take};
 ghost use Rattle.rfc8391.specs.Wots.{base_w, checksum, digits, len, step, chain, wots_pk, wots_pk_from_sig};
 ghost use Rattle.keyed.specs.Seeds.{suite_of, held, held_all, values_in, seed_of, Prepared};
@@ -70,7 +73,7 @@ fn chain_step(s: Seed, a: Address, j: u32, x: [u8; 32]) -> [u8; 32]
 }
 
 // What a walk along a chain gives.
-#[derive(Drop)]
+#[derive(Clone, Copy)]
 pub struct Walked {
     pub value: [u8; 32],
 }
@@ -133,7 +136,7 @@ pub fn ends_from(values: &[u8], s: Seed, a: Address, m: [u8; 32]) -> [[u8; 32]; 
 }
 
 // All that the secret values of one leaf need: the seeds, the leaf's one-time address, and the leaf's own seed, prepared.
-#[derive(Drop)]
+#[derive(Clone, Copy)]
 pub struct Secrets {
     pub secret: [u8; 32],
     pub public: [u8; 32],

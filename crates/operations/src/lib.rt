@@ -1,6 +1,9 @@
 // Making, signing and checking: the answer for every input, and every byte of every buffer.
 // Uses the refusals of outcomes, the page of marks, records and signatures.
 // The promises, the checking program and the library for C and C++ use it.
+
+#![tactic(auto)]
+
 ghost use Rattle.std.specs.Prelude.{◌≡◌, true, false, ◌^◌, ◌≤◌, take};
 ghost use Rattle.outcomes.specs.Outcome.{outcome_of};
 ghost use Rattle.keyed.specs.Sha2.{sha2};
@@ -12,20 +15,20 @@ use marks::Tally;
 use rfc8391::KeyType;
 
 // What checking answers. A later request adds a count of steps.
-#[derive(Drop)]
+#[derive(Clone, Copy)]
 pub struct Checked {
     pub outcome: u32,
 }
 
 // What making answers.
-#[derive(Drop)]
+#[derive(Clone, Copy)]
 pub struct Made {
     pub outcome: u32,
 }
 
 // What signing answers, with the session that the caller goes on with.
 #[repr(C)]
-#[derive(Drop)]
+#[derive(Clone, Copy)]
 pub struct Signed {
     pub outcome: u32,
     pub session: u32,

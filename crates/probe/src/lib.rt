@@ -1,6 +1,9 @@
 // The inner layers that the benchmarks time, exported on byte slices: SHA-256 and a leaf.
 // Uses the layers that it shows.
 // bench/ links it beside the library; no customer does.
+
+#![tactic(auto)]
+
 ghost use Rattle.std.specs.Prelude.{◌≡◌, take};
 ghost use Rattle.sha256.specs.Sha256.{sha256};
 ghost use Rattle.keyed.specs.Sha2.{sha2};

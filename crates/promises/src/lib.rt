@@ -1,6 +1,9 @@
 // What is promised of each operation: a function takes its arguments, calls it, and ensures the customer's sentence on what came back.
 // Uses the operations and the page of marks.
 // It is the door by which a reader comes in (docs/PROMISES.md); the shams use it.
+
+#![tactic(auto)]
+
 ghost use Rattle.std.specs.Prelude.{◌≡◌, List, ◌↔◌, ℕ, ◌+◌, ◌-◌, ◌/◌, ◌<◌, ◌≤◌, length};
 ghost use Rattle.lists.specs.Bytes.{number};
 ghost use Rattle.keyed.specs.Sha2.{sha2};
@@ -261,7 +264,7 @@ pub fn checking_has_one_answer(key: &[u8], message: &[u8], signature: &[u8]) -> 
 }
 
 // Which operation a step of a history calls.
-#[derive(Drop)]
+#[derive(Clone, Copy)]
 pub enum Kind {
     Reserving,
     Marking,
@@ -269,7 +272,7 @@ pub enum Kind {
 }
 
 // What a call of a history answers.
-#[derive(Drop)]
+#[derive(Clone, Copy)]
 pub struct Answer {
     pub outcome: u32,
     pub session: u32,

@@ -1,6 +1,9 @@
 // What is written for a key of type 1: the secret record and the public key, into buffers of the right length.
 // Uses the trees and what lies below them.
 // Signatures and the operations use it.
+
+#![tactic(auto)]
+
 ghost use Rattle.std.specs.Prelude.{◌≡◌, ◌++◌, length};
 ghost use Rattle.lists.specs.Bytes.{to_byte};
 ghost use Rattle.keyed.specs.Sha2.{sha2};

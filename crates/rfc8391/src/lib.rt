@@ -1,6 +1,9 @@
 // RFC 8391's definitions over any hash suite and their laws, in specs/ and proofs/; here its small types: addresses, key types, values.
 // Uses lists.
 // Everything above uses it.
+
+#![tactic(auto)]
+
 ghost use Rattle.std.specs.Prelude.{◌≡◌, ◌≤◌, length, take};
 ghost use Rattle.lists.specs.Bytes.{to_byte};
 ghost use Rattle.rfc8391.specs.Suite.{xor};
@@ -9,7 +12,7 @@ ghost use Rattle.rfc8391.specs.Xmss.{ots_at, ltree_at, tree_at};
 ghost use Rattle.rfc8391.specs.Formats.{key_type, single_tree};
 
 // Eight words. What w4, w5 and w6 mean is the type's to say, so that they have two names each below.
-#[derive(Drop)]
+#[derive(Clone, Copy)]
 pub struct Address {
     pub layer: u32,
     pub treehigh: u32,
@@ -140,13 +143,13 @@ impl Address {
 }
 
 // The hash of a key type, with the length of its values: SHA-256 and 32 bytes.
-#[derive(Drop)]
+#[derive(Clone, Copy)]
 pub enum Hash {
     Sha2,
 }
 
 // What a type number stands for: a hash, a tree's height and the length of its signatures; or nothing that we know.
-#[derive(Drop)]
+#[derive(Clone, Copy)]
 pub enum KeyType {
     Served {
         hash: Hash,

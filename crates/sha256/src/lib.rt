@@ -1,6 +1,9 @@
 // SHA-256 of FIPS 180-4: whole messages, and a hash that is taken up after whole blocks (a midstate).
 // Uses lists. Every public contract is an equation to specs/, which keeps the document's names and order.
 // Keyed hashing uses it.
+
+#![tactic(auto)]
+
 ghost use Rattle.std.specs.Prelude.{◌≡◌, ◌+◌, ◌-◌, ◌*◌, ◌/◌, ◌%◌, ◌^◌, ◌<◌, ◌≤◌, ◌∷◌, ◌++◌, length, take, replicate, slice_index};
 ghost use Rattle.std.proofs.Math.Seq.{paste};
 ghost use Rattle.lists.specs.Lists.{turns};
@@ -79,7 +82,7 @@ const K: [u32; 64] = [
 ];
 
 // The eight working variables, and the eight words of a hash value.
-#[derive(Drop)]
+#[derive(Clone, Copy)]
 pub struct State {
     pub a: u32,
     pub b: u32,

@@ -1,6 +1,9 @@
 // Wrong operations that the promises shut out, each by a theorem: no program that behaves like that could be proved.
 // Uses the promises.
 // Nothing uses it. Each must-fail edit puts the honest way in a sham's place: the theorem then says something false.
+
+#![tactic(auto)]
+
 ghost use Rattle.std.specs.Prelude.{◌≡◌, ℕ, List, length};
 ghost use Rattle.rfc8391.specs.Suite.{Suite};
 ghost use Rattle.rfc8391.specs.declared.Hash.{Hash};

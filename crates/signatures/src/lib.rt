@@ -1,6 +1,9 @@
 // Signatures in bytes: one is written with what a secret record holds, and one is read to the root to which it leads.
 // Uses records, trees and what lies below them. Where chain values and path lie in a signature is known here alone.
 // The operations add the refusals and use it.
+
+#![tactic(auto)]
+
 ghost use Rattle.std.specs.Prelude.{◌≡◌, ◌++◌, ◌<◌, ◌≤◌, length, take, drop};
 ghost use Rattle.lists.specs.Lists.{flat};
 ghost use Rattle.lists.specs.Bytes.{to_byte};

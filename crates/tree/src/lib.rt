@@ -1,6 +1,9 @@
 // The trees of RFC 8391: L-tree, leaf, node, path, and the root from a signature.
 // Uses onetime and what lies below it.
 // The records and the signatures use it.
+
+#![tactic(auto)]
+
 ghost use Rattle.std.specs.Prelude.{◌≡◌, ◌+◌, ◌*◌, ◌/◌, ◌%◌, ◌^◌, ◌<◌, ◌≤◌, length};
 ghost use Rattle.lists.specs.Lists.{flat};
 ghost use Rattle.rfc8391.specs.Wots.{len};

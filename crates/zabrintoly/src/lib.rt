@@ -1,6 +1,9 @@
 // What C and C++ link: the five operations on numbers and byte slices, each by the contract that it has in Rattle.
 // Uses the page of marks and the operations alone.
 // include/zabrintoly.h declares these functions and is their manual; tests hold the two to each other.
+
+#![tactic(auto)]
+
 ghost use Rattle.std.specs.Prelude.{◌≡◌};
 ghost use Rattle.marks.specs.Marking.{reserve_of, mark_end, mark_of};
 ghost use Rattle.operations.specs.Check.{check_of};
