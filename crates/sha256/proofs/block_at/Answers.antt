@@ -1,0 +1,17 @@
+-- The loop fills the 16 words of a block by their rule.
+use Rattle.std.proofs.Common.{◌+◌, ◌-◌, ◌*◌, replicate, refl, arith, rules}
+use Rattle.sha256.specs.Sha256.{block}
+use Rattle.lists.specs.Bytes.{number}
+use Rattle.lists.proofs.Filling.{filling_start, filling_more, filling_end}
+use Rattle.lists.specs.Loops.{Filling}
+use Rattle.sha256.proofs.block_at.Goals as goal
+
+pub loop-j-init : goal.loop-j-init
+loop-j-init c = filling_start 16 _ (replicate 16 0) refl
+
+pub loop-j-preserved : goal.loop-j-preserved
+loop-j-preserved c = filling_more 16 _ _ _ _ c.big_endian.ensures (omega arith) c.loop-j.invariant
+
+pub returns : goal.returns
+unfolding block
+returns c = filling_end 16 _ _ _ (omega arith) c.loop-j.invariant

@@ -1,0 +1,12 @@
+-- 23 zeros lie between the bit 1 and the length.
+use Rattle.std.proofs.Common.{◌≡◌, ◌+◌, ◌-◌, ◌*◌, ◌%◌, arith, rules}
+use Rattle.sha256.specs.Sha256.{padding}
+use Rattle.lists.specs.Bytes.{to_byte}
+use Rattle.sha256.proofs.half_padding.Goals as goal
+
+pub returns : goal.returns
+unfolding padding to_byte
+returns c =
+    let k = c.args.before in
+    let z : (119 - (64 * k + 32) % 64) % 64 ≡ 23 = omega arith in
+    rw (z, c.bit_length-bits.ensures)

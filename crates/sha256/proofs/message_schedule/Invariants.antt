@@ -1,0 +1,12 @@
+-- The loop stores word t behind the words before it.
+use Rattle.std.proofs.Common.{◌≡◌, ◌-◌, ◌≤◌, length, take, sym, refl, ◌∙◌, arith, length-set, take_all, rules}
+use Rattle.sha256.proofs.Schedule.{schedule_more}
+use Rattle.sha256.specs.Sha256.{word, schedule}
+use Rattle.lists.specs.Lists.{turns}
+use Rattle.sha256.proofs.message_schedule.Given as goal
+
+abbrev pub invariant-loop-t : goal.invariant-loop-t
+invariant-loop-t l = (16 ≤ l.t) × (l.t ≤ 64) × (length l.w ≡ 64) × (take l.t l.w ≡ schedule (l.t - 16) (take 16 l.initial.w))
+
+abbrev pub decreases-loop-t : goal.decreases-loop-t
+decreases-loop-t l = 64 - l.t
