@@ -3,4 +3,3 @@
 // The page of marks and the operations state their answers by it.
 
 #![tactic(auto)]
-

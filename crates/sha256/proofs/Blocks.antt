@@ -1,5 +1,5 @@
 -- A message's blocks, where the message comes in two parts.
-use Rattle.std.proofs.Common.{◌≡◌, ℕ, ◌+◌, ◌-◌, ◌*◌, ◌/◌, ◌≤◌, List, [], ◌++◌, length, sym, refl, ap, ◌∙◌, append_assoc, arith, length-append}
+use Rattle.std.proofs.Common.{◌≡◌, ℕ, ◌+◌, ◌*◌, ◌/◌, ◌≤◌, List, [], ◌++◌, length, sym, refl, ap, ◌∙◌, append_assoc, arith, length-append}
 use Rattle.lists.specs.Lists.{turns}
 use Rattle.lists.proofs.Tabs.{tab_ext}
 use Rattle.lists.proofs.Turns.{turns_add, turns_ext}

@@ -1,7 +1,6 @@
 -- After i turns of the loop, i blocks are hashed.
-use Rattle.std.proofs.Common.{◌≡◌, ◌-◌, ◌/◌, ◌≤◌, length, ap, ◌∙◌, arith, rules}
-use Rattle.sha256.specs.Sha256.{compressed, hashed}
-use Rattle.lists.proofs.Turns.{turns_start, turns_more}
+use Rattle.std.proofs.Common.{◌≡◌, ◌-◌, ◌≤◌}
+use Rattle.sha256.specs.Sha256.{hashed}
 use Rattle.sha256.proofs.absorb.Given as goal
 
 abbrev pub invariant-loop-i : goal.invariant-loop-i

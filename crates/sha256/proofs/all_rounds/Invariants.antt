@@ -1,8 +1,6 @@
 -- After t rounds, four more.
-use Rattle.std.proofs.Common.{◌≡◌, ◌-◌, ◌%◌, ◌≤◌, refl, ap, ◌∙◌, arith, rules}
-use Rattle.sha256.specs.Sha256.{K, rounds}
-use Rattle.lists.proofs.Turns.{turns_start, turns_add}
-use Rattle.lists.specs.Lists.{turns}
+use Rattle.std.proofs.Common.{◌≡◌, ◌-◌, ◌%◌, ◌≤◌}
+use Rattle.sha256.specs.Sha256.{rounds}
 use Rattle.sha256.proofs.all_rounds.Given as goal
 
 abbrev pub invariant-loop-t : goal.invariant-loop-t

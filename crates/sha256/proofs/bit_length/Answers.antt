@@ -1,5 +1,5 @@
 -- Each byte of 8 * n, by the powers of two that n is divided by.
-use Rattle.std.proofs.Common.{◌≡◌, ◌-◌, ◌*◌, ◌/◌, ◌%◌, arith, rules}
+use Rattle.std.proofs.Common.{◌≡◌, ◌*◌, ◌/◌, ◌%◌, arith}
 use Rattle.sha256.proofs.Endings.{byte_of_bits}
 use Rattle.lists.specs.Bytes.{to_byte}
 use Rattle.sha256.proofs.bit_length.Goals as goal

@@ -1,9 +1,7 @@
 -- The loop fills the 16 words of a block by their rule.
-use Rattle.std.proofs.Common.{◌+◌, ◌-◌, ◌*◌, replicate, refl, arith, rules}
+use Rattle.std.proofs.Common.{replicate, refl, arith}
 use Rattle.sha256.specs.Sha256.{block}
-use Rattle.lists.specs.Bytes.{number}
 use Rattle.lists.proofs.Filling.{filling_start, filling_more, filling_end}
-use Rattle.lists.specs.Loops.{Filling}
 use Rattle.sha256.proofs.block_at.Goals as goal
 
 pub loop-j-init : goal.loop-j-init

@@ -1,8 +1,6 @@
 -- The loop fills the 16 words of a block by their rule.
-use Rattle.std.proofs.Common.{◌+◌, ◌-◌, ◌*◌, replicate, refl, arith, rules}
-use Rattle.sha256.specs.Sha256.{block}
+use Rattle.std.proofs.Common.{◌+◌, ◌-◌, ◌*◌}
 use Rattle.lists.specs.Bytes.{number}
-use Rattle.lists.proofs.Filling.{filling_start, filling_more, filling_end}
 use Rattle.lists.specs.Loops.{Filling}
 use Rattle.sha256.proofs.block_at.Given as goal
 

@@ -1,5 +1,4 @@
 -- Schedule, rounds and sum, one after the other.
-use Rattle.std.proofs.Common.{rules}
 use Rattle.sha256.specs.Sha256.{compressed}
 use Rattle.sha256.proofs.compress.Goals as goal
 

@@ -1,5 +1,4 @@
 -- The digest is its eight words in bytes.
-use Rattle.std.proofs.Common.{rules}
 use Rattle.sha256.specs.Sha256.{digest}
 use Rattle.sha256.proofs.digest_of.Goals as goal
 

@@ -1,5 +1,5 @@
 -- The bytes of m, the byte 0x80 and the bit length, pasted into zeros.
-use Rattle.std.proofs.Common.{◌≡◌, ℕ, ◌-◌, List, length, set, replicate, arith, rules}
+use Rattle.std.proofs.Common.{◌≡◌, ℕ, List, length, set, replicate, arith, rules}
 use lib.Seq.{paste}
 use Rattle.sha256.proofs.Endings.{ending_pasted}
 use Rattle.sha256.proofs.ending.Goals as goal

@@ -1,5 +1,5 @@
 -- The whole blocks, then the padded rest: one block where the length has room behind it, or two.
-use Rattle.std.proofs.Common.{◌≡◌, ℕ, ◌-◌, List, length, take, sym, refl, ap, ◌∙◌, arith, length-take-le, take_all, rules}
+use Rattle.std.proofs.Common.{◌≡◌, ℕ, List, length, take, sym, refl, ap, ◌∙◌, arith, length-take-le, take_all}
 use Rattle.sha256.specs.Sha256.{hashed, digest}
 use Rattle.sha256.proofs.Endings.{finished_by}
 use Rattle.sha256.proofs.finish.Goals as goal

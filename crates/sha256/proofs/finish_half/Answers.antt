@@ -1,5 +1,5 @@
 -- The rest and its padding are one block.
-use Rattle.std.proofs.Common.{◌≡◌, ◌+◌, ◌-◌, ◌*◌, ◌++◌, length, sym, ◌∙◌, rules}
+use Rattle.std.proofs.Common.{◌≡◌, ◌+◌, ◌*◌, ◌++◌, length, sym, ◌∙◌, rules}
 use Rattle.sha256.proofs.Endings.{finished_half}
 use Rattle.sha256.specs.Sha256.{padding, hashed}
 use Rattle.sha256.proofs.finish_half.Goals as goal

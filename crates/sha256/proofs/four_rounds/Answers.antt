@@ -1,5 +1,5 @@
 -- Four rounds, one after the other.
-use Rattle.std.proofs.Common.{◌≡◌, ℕ, ◌+◌, ◌-◌, get_or, add-zero, rules}
+use Rattle.std.proofs.Common.{◌≡◌, ℕ, ◌+◌, get_or, add-zero}
 use Rattle.sha256.specs.Sha256.{round}
 use Rattle.sha256.specs.declared.State.{State}
 use Rattle.lists.proofs.Turns.{turns_start, turns_more}

@@ -1,5 +1,5 @@
 -- 23 zeros lie between the bit 1 and the length.
-use Rattle.std.proofs.Common.{◌≡◌, ◌+◌, ◌-◌, ◌*◌, ◌%◌, arith, rules}
+use Rattle.std.proofs.Common.{◌≡◌, ◌+◌, ◌-◌, ◌*◌, ◌%◌, arith}
 use Rattle.sha256.specs.Sha256.{padding}
 use Rattle.lists.specs.Bytes.{to_byte}
 use Rattle.sha256.proofs.half_padding.Goals as goal

@@ -1,5 +1,4 @@
 -- A message of which no block was hashed before.
-use Rattle.std.proofs.Common.{rules}
 use Rattle.sha256.proofs.Blocks.{sha256_whole}
 use Rattle.sha256.proofs.hash.Goals as goal
 

@@ -1,7 +1,6 @@
 -- After i turns of the loop, i bytes of each half are laid.
-use Rattle.std.proofs.Common.{◌-◌, replicate, refl, arith, rules}
+use Rattle.std.proofs.Common.{replicate, refl, arith, rules}
 use Rattle.lists.proofs.Joining.{joining_start, joining_more, joining_end}
-use Rattle.lists.specs.Loops.{Joining}
 use Rattle.sha256.proofs.joined.Goals as goal
 
 pub loop-i-init : goal.loop-i-init

@@ -1,6 +1,5 @@
 -- After i turns of the loop, i bytes of each half are laid.
-use Rattle.std.proofs.Common.{◌-◌, replicate, refl, arith, rules}
-use Rattle.lists.proofs.Joining.{joining_start, joining_more, joining_end}
+use Rattle.std.proofs.Common.{◌-◌}
 use Rattle.lists.specs.Loops.{Joining}
 use Rattle.sha256.proofs.joined.Given as goal
 

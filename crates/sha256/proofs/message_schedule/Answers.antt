@@ -1,5 +1,5 @@
 -- The loop stores word t behind the words before it.
-use Rattle.std.proofs.Common.{◌≡◌, ◌-◌, ◌≤◌, length, take, sym, refl, ◌∙◌, arith, length-set, take_all, rules}
+use Rattle.std.proofs.Common.{◌≡◌, sym, refl, ◌∙◌, arith, length-set, take_all}
 use Rattle.sha256.proofs.Schedule.{schedule_more}
 use Rattle.sha256.specs.Sha256.{word, schedule}
 use Rattle.lists.specs.Lists.{turns}

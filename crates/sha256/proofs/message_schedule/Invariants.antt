@@ -1,8 +1,6 @@
 -- The loop stores word t behind the words before it.
-use Rattle.std.proofs.Common.{◌≡◌, ◌-◌, ◌≤◌, length, take, sym, refl, ◌∙◌, arith, length-set, take_all, rules}
-use Rattle.sha256.proofs.Schedule.{schedule_more}
-use Rattle.sha256.specs.Sha256.{word, schedule}
-use Rattle.lists.specs.Lists.{turns}
+use Rattle.std.proofs.Common.{◌≡◌, ◌-◌, ◌≤◌, length, take}
+use Rattle.sha256.specs.Sha256.{schedule}
 use Rattle.sha256.proofs.message_schedule.Given as goal
 
 abbrev pub invariant-loop-t : goal.invariant-loop-t

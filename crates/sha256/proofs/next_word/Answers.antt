@@ -1,5 +1,4 @@
 -- The sum of four words, in the order of FIPS 180-4.
-use Rattle.std.proofs.Common.{rules}
 use Rattle.sha256.specs.Sha256.{plus}
 use Rattle.sha256.proofs.next_word.Goals as goal
 

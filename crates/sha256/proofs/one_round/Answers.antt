@@ -1,5 +1,4 @@
 -- One round, sum by sum.
-use Rattle.std.proofs.Common.{rules}
 use Rattle.sha256.specs.Sha256.{plus, round, T₁, T₂}
 use Rattle.sha256.proofs.one_round.Goals as goal
 

@@ -1,6 +1,6 @@
 -- After i turns of the loop, i bytes are pasted.
-use Rattle.std.proofs.Common.{◌≡◌, ◌-◌, ◌≤◌, length, add-one, arith, rules}
-use lib.Seq.{paste, paste-zero, paste-suc}
+use Rattle.std.proofs.Common.{◌≡◌, length, add-one, arith}
+use lib.Seq.{paste-zero, paste-suc}
 use Rattle.sha256.proofs.paste_in.Goals as goal
 
 pub loop-i-init : goal.loop-i-init

@@ -1,6 +1,6 @@
 -- After i turns of the loop, i bytes are pasted.
-use Rattle.std.proofs.Common.{◌≡◌, ◌-◌, ◌≤◌, length, add-one, arith, rules}
-use lib.Seq.{paste, paste-zero, paste-suc}
+use Rattle.std.proofs.Common.{◌≡◌, ◌-◌, ◌≤◌, length}
+use lib.Seq.{paste}
 use Rattle.sha256.proofs.paste_in.Given as goal
 
 abbrev pub invariant-loop-i : goal.invariant-loop-i

@@ -1,5 +1,4 @@
 -- Eight sums of words.
-use Rattle.std.proofs.Common.{rules}
 use Rattle.sha256.specs.Sha256.{plus, added}
 use Rattle.sha256.proofs.sum.Goals as goal
 

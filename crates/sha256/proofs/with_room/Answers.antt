@@ -1,8 +1,7 @@
 -- The loop fills the first 16 of 64 words with the block's.
-use Rattle.std.proofs.Common.{◌≡◌, ◌-◌, ◌≤◌, get_or, replicate, refl, ◌∙◌, arith, rules}
+use Rattle.std.proofs.Common.{◌≡◌, replicate, refl, ◌∙◌, arith, rules}
 use Rattle.lists.proofs.Tabs.{tab-get_or}
 use Rattle.lists.proofs.Filling.{filling_start, filling_more}
-use Rattle.lists.specs.Loops.{Filling}
 use Rattle.sha256.proofs.with_room.Goals as goal
 
 pub loop-i-init : goal.loop-i-init

@@ -1,7 +1,5 @@
 -- The loop fills the first 16 of 64 words with the block's.
-use Rattle.std.proofs.Common.{◌≡◌, ◌-◌, ◌≤◌, get_or, replicate, refl, ◌∙◌, arith, rules}
-use Rattle.lists.proofs.Tabs.{tab-get_or}
-use Rattle.lists.proofs.Filling.{filling_start, filling_more}
+use Rattle.std.proofs.Common.{◌-◌, ◌≤◌, get_or}
 use Rattle.lists.specs.Loops.{Filling}
 use Rattle.sha256.proofs.with_room.Given as goal
 
