@@ -1,7 +1,7 @@
 -- A keyed function from the hash value after its number and key, and after two more halves.
 use mathlib.Core.Path.{◌≡◌, sym, ap, ◌∙◌}
 use mathlib.Core.List.{List, [], ◌++◌, append-nil, append_assoc}
-use Prim.Native.Nat.{ℕ, ◌+◌, ◌*◌}
+use Prim.Native.Nat.{ℕ, ◌*◌}
 use native.Mathlib.Omega.{arith}
 use lib.ListN.{length, length-append}
 use Rattle.lists.specs.Bytes.{to_byte}
