@@ -1,0 +1,28 @@
+-- A node by recursion on the height, which falls at each call; positions stay where their leaves are.
+use Rattle.std.proofs.Common.{◌≡◌, suc, ◌-◌, arith}
+use Rattle.rfc8391.proofs.Trees.{node_leaf, node_join}
+use Rattle.keyed.specs.Seeds.{suite_of, seed_of}
+use Rattle.tree.proofs.Bounds.{within_left, within_right}
+use Rattle.tree.proofs.+node_at.Goals as goal
+
+pub node_at-left-requires : goal.node_at-left-requires
+node_at-left-requires t c =
+    let a = c.args in
+    let e : a.height ≡ suc (a.height - 1) = omega arith in
+    (omega arith, (c.requires.0, within_left a.height (a.height - 1) a.position e c.requires.1))
+
+pub node_at-right-requires : goal.node_at-right-requires
+node_at-right-requires t c =
+    let a = c.args in
+    let e : a.height ≡ suc (a.height - 1) = omega arith in
+    (omega arith, (c.requires.0, within_right a.height (a.height - 1) a.position e c.requires.1))
+
+pub returns-then-height-eq0 : goal.returns-then-height-eq0
+returns-then-height-eq0 t c = node_leaf _ _ _ _ _ _ _ c.if-height-eq0.true c.leaf.ensures
+
+pub returns-else-height-eq0 : goal.returns-else-height-eq0
+returns-else-height-eq0 t c =
+    let a = c.args in
+    let e : a.height ≡ suc (a.height - 1) = omega arith in
+    node_join (suite_of a.s) (seed_of a.s) a.a _ a.height (a.height - 1) a.position _ _ _ e
+    c.node_at-left.ensures c.node_at-right.ensures c.join_at.ensures
