@@ -33,7 +33,7 @@ pub fn write_record(out: &mut [u8], material: &[u8], root: [u8; 32])
     ensures { out.new ≡ record_bytes (record_with 32 1 material.now root) }
 {
     lists::write_number(&mut out[0..4], 1);
-    bytes::copy(material, &mut out[4..100]);
+    out[4..100].copy_from_slice(material);
     rfc8391::write_value(&mut out[100..132], root);
 }
 
