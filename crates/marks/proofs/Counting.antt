@@ -15,11 +15,17 @@ use Rattle.marks.specs.Page.{mark_used, used, WellFormed}
 use Rattle.marks.specs.Decisions.{well_formed?}
 use Rattle.marks.specs.Marking.{tally, byte_count, count_of}
 use Rattle.marks.proofs.Ordered.{FirstUsed, byte_of}
+use Rattle.marks.specs.declared.Tally.{Tally}
 use Rattle.marks.specs.declared.Tally.TheVariants.{Used, Bad}
 use Rattle.marks.proofs.Tests.{ltb_same}
 use Rattle.marks.proofs.Marks.{marks_are, first_used}
 use Rattle.marks.proofs.Bytes.{bits_are, leading_is}
 use Rattle.marks.proofs.Pages.{mark_at, page_at, page_is}
+
+-- a tally that is no count
+pub tally_other : (t : Tally) → ((n : ℕ) → t ≡ Used n → ⊥) → t ≡ Bad
+tally_other (Used n) f = absurd (f n refl)
+tally_other Bad f = refl
 
 -- a tally tells its count, and whether what was counted is in order
 module _ {A : Type 0} (n : ℕ) where
