@@ -12,6 +12,11 @@ use Rattle.rfc8391.specs.declared.Hash.TheVariants.{Sha2}
 use Rattle.rfc8391.specs.declared.KeyType.{KeyType}
 use Rattle.rfc8391.specs.declared.KeyType.TheVariants.{Served, Unknown}
 
+-- a type that is not served
+pub type_other : (t : KeyType) → ((g : Hash) (h l : ℕ) → t ≡ Served g h l → ⊥) → t ≡ Unknown
+type_other (Served g h l) f = absurd (f g h l refl)
+type_other Unknown f = refl
+
 -- no number but 1, 2 and 3 is a type
 pub no_type : (t : ℕ) → (t ≡ 1 → ⊥) → (t ≡ 2 → ⊥) → (t ≡ 3 → ⊥) → key_type t ≡ Unknown
 unfolding key_type
