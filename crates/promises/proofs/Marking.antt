@@ -55,4 +55,4 @@ module _ (page : List ℕ) (s : ℕ) where
     where
       go : Dec ((mark_of page s).answer.outcome ≡ 0) → (mark_of page s).page ≡ page
       go (no n) = mark_refused.1 n
-      go (yes z) = let f = (mark_numbers page s).done.0 z in ap (λ (x : MarkEnd). x.page) (sym (answers.mark-again page s (used page) f.0 refl f.1.0 e))
+      go (yes z) = let f = (mark_numbers page s).done.0 z in ap (λ (x : MarkEnd). x.page) (sym (answers.mark_again page s (used page) f.0 refl f.1.0 e))
