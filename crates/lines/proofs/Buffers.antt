@@ -4,7 +4,7 @@ use mathlib.Core.List.{List, [], ◌∷◌, ◌++◌, append_assoc}
 use Prim.Native.Nat.{ℕ, ◌+◌, ◌≤◌, ◌<◌}
 use native.Mathlib.Numerals.{add-one}
 use native.Mathlib.Omega.{arith}
-use lib.ListN.{length, take, drop, set, length-append}
+use lib.ListN.{length, take, drop, set}
 use lib.Seq.{length-take-le, take_all, take-append_seam, take-append-add, take-append-le, take-suc-set}
 use Rattle.lines.specs.Decimal.{decimal, numbers_line}
 
@@ -20,17 +20,14 @@ at_place out ys rest p at k h e l =
     ∙ take-append-add (take at out) (ys ++ rest) k
     ∙ ap (λ (z : List ℕ). take at out ++ z) (take-append-le k ys rest l ∙ e)
 
--- behind it there is room in the part
-pub inside : (out ys rest : List ℕ) (at k : ℕ) → at ≤ length out → k < length ys → at + k < length (take at out ++ (ys ++ rest))
-inside out ys rest at k h l = omega (arith, length-append (take at out) (ys ++ rest), length-append ys rest, length-take-le at out h)
-
--- and a byte is put there
-pub with_last : (out ys rest p : List ℕ) (at k b : ℕ) → at ≤ length out → take k ys ≡ p → k < length ys
+-- and behind it, where there is room, a byte is put
+pub with_last : (out ys rest p : List ℕ) (at k b : ℕ) → at ≤ length out → take k ys ≡ p → k ≤ length ys
+    → at + k < length (take at out ++ (ys ++ rest))
     → take (at + k + 1) (set (take at out ++ (ys ++ rest)) (at + k) b) ≡ take at out ++ (p ++ (b ∷ []))
-with_last out ys rest p at k b h e l =
+with_last out ys rest p at k b h e l room =
     let all : List ℕ = take at out ++ (ys ++ rest) in
-    let stands : take (at + k) all ≡ take at out ++ p = at_place out ys rest p at k h e (omega arith) in
-    rw (add-one, take-suc-set all (at + k) b (inside out ys rest at k h l), stands, append_assoc)
+    let stands : take (at + k) all ≡ take at out ++ p = at_place out ys rest p at k h e l in
+    rw (add-one, take-suc-set all (at + k) b room, stands, append_assoc)
 
 -- two numbers, each with its last byte
 pub two : (o o₁ o₂ : List ℕ) (n m : ℕ) → o₁ ≡ o ++ (decimal n ++ (32 ∷ [])) → o₂ ≡ o₁ ++ (decimal m ++ (10 ∷ []))

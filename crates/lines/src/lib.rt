@@ -79,8 +79,8 @@ pub fn write_number(out: &mut [u8], at: usize, n: u64, last: u8) -> usize
 {
     let mut text = [0u8; 20];
     let k = io::decimal(n, &mut text);
-    bytes::copy(&text[..k], &mut out[at..]);
     let end = at + k;
+    out[at..end].copy_from_slice(&text[..k]);
     out[end] = last;
     end + 1
 }
