@@ -30,7 +30,7 @@ pub record Whole (frame : List ℕ) (l : Line) : Type 0 where
 
 -- what a copy of them leaves in a buffer with room for a frame
 pub keeps : (frame : List ℕ) (l : Line) (n : ℕ) (old new : List ℕ) → n ≡ length (body frame l)
-    → new ≡ take (length (body frame l)) (body frame l) ++ drop (length (body frame l)) old
+    → new ≡ body frame l ++ drop (length (body frame l)) old
     → length new ≡ length old → length frame ≤ length old → (n ≤ length new) × (take n new ≡ body frame l)
 keeps frame l n old new e q s h =
     (omega (arith, length-take (l.len - 1) (drop 1 frame), length-drop 1 frame), copied n (body frame l) old new e q)

@@ -4,7 +4,7 @@
 
 #![tactic(auto)]
 
-ghost use Rattle.std.specs.Prelude.{◌≡◌, List, [], ℕ, ◌+◌, ◌*◌, ◌≤◌, ◌<◌, ◌^◌, length, take};
+ghost use Rattle.std.specs.Prelude.{◌≡◌, List, [], ◌++◌, ℕ, ◌+◌, ◌*◌, ◌≤◌, ◌<◌, ◌^◌, length, take, drop};
 ghost use Rattle.lists.specs.Lists.{flat};
 ghost use Rattle.lines.specs.Steps.{after, run_of};
 ghost use Rattle.lines.specs.Reading.{read, held, closed, char_step, end_input, written};
@@ -60,6 +60,17 @@ pub fn start() -> State
     }
 }
 
+// Copies a text to the front of a buffer that has room for it, and answers how long it is.
+fn keep(text: &[u8], buffer: &mut [u8]) -> usize
+    requires { length text.now ≤ length buffer.old }
+    ensures len { result ≡ length text.now }
+    ensures after { buffer.new ≡ text.now ++ drop (length text.now) buffer.old }
+{
+    let n = text.len();
+    buffer[..n].copy_from_slice(text);
+    n
+}
+
 // The end of a line: a key or a message is kept, and a signature or what is no frame has an outcome.
 fn end_line(frame: &[u8], key: &mut [u8], message: &mut [u8], s: State) -> Ended
     requires { Ready frame.now key.old message.old s }
@@ -76,12 +87,12 @@ fn end_line(frame: &[u8], key: &mut [u8], message: &mut [u8], s: State) -> Ended
     let rest = &frame[1..len];
     match frame[0] {
         1 => {
-            kept.key = bytes::copy(rest, key);
+            kept.key = keep(rest, key);
             let told = Told::Nothing;
             Ended { kept, told }
         }
         2 => {
-            kept.message = bytes::copy(rest, message);
+            kept.message = keep(rest, message);
             let told = Told::Nothing;
             Ended { kept, told }
         }

@@ -9,8 +9,8 @@ use lib.Seq.{length-take-le, take_all, take-append_seam, take-append-add, take-a
 use Rattle.lines.specs.Decimal.{decimal, numbers_line}
 
 -- what a copy leaves at the front
-pub copied : (n : ℕ) (p old new : List ℕ) → n ≡ length p → new ≡ take (length p) p ++ drop (length p) old → take n new ≡ p
-copied n p old new e q = rw (q, e, take_all (length p) p (omega arith)) (take-append_seam p (drop (length p) old))
+pub copied : (n : ℕ) (p old new : List ℕ) → n ≡ length p → new ≡ p ++ drop (length p) old → take n new ≡ p
+copied n p old new e q = rw (q, e) (take-append_seam p (drop (length p) old))
 
 -- a part of a buffer that starts with p, put back at its place
 at_place : (out ys rest p : List ℕ) (at k : ℕ) → at ≤ length out → take k ys ≡ p → k ≤ length ys
