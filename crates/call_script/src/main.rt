@@ -6,7 +6,8 @@
 
 ghost use Rattle.std.specs.Prelude.{◌+◌, ◌≤◌, length};
 
-use libc::{STDIN_FILENO, STDOUT_FILENO};
+const STDIN: i32 = 0;
+const STDOUT: i32 = 1;
 
 const LONGEST: usize = 65537;
 // Eight numbers of 4 bytes: which call, its type or session, what fills the out buffers, the message's length,
@@ -22,10 +23,10 @@ fn least(a: usize, b: usize) -> usize
 }
 
 fn print_bytes(bytes: &[u8]) {
-    io::write_all(STDOUT_FILENO, b" ");
+    io::write_all(STDOUT, b" ");
     let mut i = 0;
     while i < bytes.len() {
-        io::print_hex(STDOUT_FILENO, bytes[i] as u64, 2);
+        io::print_hex(STDOUT, bytes[i] as u64, 2);
         i += 1;
     }
 }
@@ -41,12 +42,12 @@ fn print_buffer(bytes: &[u8]) {
 }
 
 fn print_number(number: u32) {
-    io::write_all(STDOUT_FILENO, b" ");
-    io::print_decimal(STDOUT_FILENO, number as u64);
+    io::write_all(STDOUT, b" ");
+    io::print_decimal(STDOUT, number as u64);
 }
 
 fn end_line() {
-    io::write_all(STDOUT_FILENO, b"\n");
+    io::write_all(STDOUT, b"\n");
 }
 
 // In each call the head begins at a place, the first input stands behind it, and the second goes from the middle to the end.
@@ -55,7 +56,7 @@ fn make_into(input: &[u8], at: usize, middle: usize, secret: &mut [u8], key: &mu
 {
     let kind = lists::big_endian(input, at + 4);
     let made = operations::make(kind, &input[at + HEAD..middle], secret, key);
-    io::write_all(STDOUT_FILENO, b"make");
+    io::write_all(STDOUT, b"make");
     print_number(made.outcome);
     print_buffer(secret);
     print_buffer(key);
@@ -77,7 +78,7 @@ fn reserve(input: &[u8], at: usize, middle: usize)
 {
     let session = lists::big_endian(input, at + 4);
     let reserved = marks::reserve(&input[at + HEAD..middle], session);
-    io::write_all(STDOUT_FILENO, b"reserve");
+    io::write_all(STDOUT, b"reserve");
     print_number(reserved.outcome);
     print_number(reserved.session);
     print_number(reserved.place);
@@ -90,7 +91,7 @@ fn mark(input: &mut [u8], at: usize, middle: usize)
 {
     let session = lists::big_endian(input, at + 4);
     let marked = marks::mark(&mut input[at + HEAD..middle], session);
-    io::write_all(STDOUT_FILENO, b"mark");
+    io::write_all(STDOUT, b"mark");
     print_number(marked.outcome);
     print_number(marked.session);
     print_buffer(&input[at + HEAD..middle]);
@@ -108,7 +109,7 @@ fn sign_into(input: &[u8], at: usize, middle: usize, end: usize, out: &mut [u8])
         &input[0..length],
         out,
     );
-    io::write_all(STDOUT_FILENO, b"sign");
+    io::write_all(STDOUT, b"sign");
     print_number(signed.outcome);
     print_number(signed.session);
     if signed.outcome == 0 {
@@ -136,7 +137,7 @@ fn check(input: &[u8], at: usize, middle: usize, end: usize)
         &input[0..length],
         &input[middle..end],
     );
-    io::write_all(STDOUT_FILENO, b"check");
+    io::write_all(STDOUT, b"check");
     print_number(checked.outcome);
 }
 
@@ -144,7 +145,7 @@ fn hash(input: &[u8], at: usize, middle: usize)
     requires { (at + 32 ≤ middle) × (middle ≤ length input.now) }
 {
     let digest = sha256::hash(&input[at + HEAD..middle]);
-    io::write_all(STDOUT_FILENO, b"hash");
+    io::write_all(STDOUT, b"hash");
     print_bytes(&digest);
 }
 
@@ -183,7 +184,7 @@ fn monte_carlo(seed: [u8; 32]) -> [u8; 32] {
 fn hash_often(input: &[u8], at: usize, middle: usize)
     requires { (at + 32 ≤ middle) × (middle ≤ length input.now) }
 {
-    io::write_all(STDOUT_FILENO, b"hash_often");
+    io::write_all(STDOUT, b"hash_often");
     if middle - at == 64 {
         let digest = monte_carlo(rfc8391::value_of(&input[at + HEAD..middle]));
         print_bytes(&digest);
@@ -232,6 +233,6 @@ fn answer_all(input: &mut [u8]) {
 
 fn main() {
     let mut input = [0u8; 524288];
-    let end = io::read_full(STDIN_FILENO, &mut input);
+    let end = io::read_full(STDIN, &mut input);
     answer_all(&mut input[..end]);
 }

@@ -4,7 +4,9 @@
 
 #![tactic(auto)]
 
-use libc::{STDIN_FILENO, STDOUT_FILENO};
+const STDIN: i32 = 0;
+
+const STDOUT: i32 = 1;
 
 // Turns of 4,096 bytes, so that every run ends: 2^52 bytes, and never more lines than a u64 counts.
 const TURNS: u64 = 0x100_0000_0000;
@@ -18,7 +20,7 @@ fn main() {
     let mut cur = frames::start();
     let mut turns = TURNS;
     while turns > 0 {
-        let got = io::read_full(STDIN_FILENO, &mut chunk);
+        let got = io::read_full(STDIN, &mut chunk);
         if got == 0 {
             break;
         }
@@ -32,10 +34,10 @@ fn main() {
         );
         cur = m.state;
         let n = m.n;
-        io::write_all(STDOUT_FILENO, &out[..n]);
+        io::write_all(STDOUT, &out[..n]);
         turns -= 1;
     }
     let m = frames::end_input(&frame, &mut key, &mut message, cur, &mut out);
     let n = m.n;
-    io::write_all(STDOUT_FILENO, &out[..n]);
+    io::write_all(STDOUT, &out[..n]);
 }
