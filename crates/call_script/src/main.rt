@@ -4,9 +4,10 @@
 
 #![tactic(auto)]
 
-ghost use Rattle.std.specs.Prelude.{◌+◌, ◌≤◌, length};
+ghost use Rattle.std.specs.Prelude.{◌≡◌, ◌+◌, ◌≤◌, length};
 
 const STDIN: i32 = 0;
+
 const STDOUT: i32 = 1;
 
 const LONGEST: usize = 65537;
@@ -231,8 +232,15 @@ fn answer_all(input: &mut [u8]) {
     }
 }
 
+// Zeros, of any number: the check can't go one by one through as many as the script has.
+fn zeros<const N: usize>() -> [u8; N]
+    ensures { N ≡ length result }
+{
+    [0; N]
+}
+
 fn main() {
-    let mut input = [0u8; 524288];
+    let mut input = zeros::<524288>();
     let end = io::read_full(STDIN, &mut input);
     answer_all(&mut input[..end]);
 }
