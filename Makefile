@@ -11,36 +11,37 @@ FRAMES ?= examples/yard.frames
 
 run: ## check the frames of FRAMES=file, or of examples/yard.frames: line number and outcome (README.md says what they mean)
 	@test -r '$(FRAMES)' || { echo "make run: can't read $(FRAMES)" >&2; exit 1; }
-	@mkdir -p target
-	@echo "building the program; the first time its proofs take some minutes" >&2
-	@rt check check_frames >target/run.log 2>&1 || { cat target/run.log; exit 1; }
+	@$(MAKE) --silent $(PROGRAM)
 	@tests/setup run
-	@tools/run-here target/bin/check_frames <'$(FRAMES)'
+	@tools/run-here $(PROGRAM) <'$(FRAMES)'
 
-SOURCES := crates.txt $(shell find crates -name '*.rt' -o -name '*.antt')
+SOURCES := crates.txt $(shell find crates -name out -prune -o \( -name '*.rt' -o -name '*.antt' \) -print)
+PROGRAM := target/bin/check_frames
 LIBRARY := target/staticlib/libzabrintoly.a
+
+target/bin/%: $(SOURCES)
+	@echo "building $*; the first time its proofs take some minutes" >&2
+	@tools/build $*
 
 library: $(LIBRARY) ## the library for C and C++ on x86-64: target/staticlib/libzabrintoly.a
 
 $(LIBRARY): $(SOURCES)
-	@mkdir -p target
 	@echo "building the library; the first time its proofs take some minutes" >&2
-	@rt staticlib zabrintoly >target/library.log 2>&1 || { cat target/library.log; exit 1; }
+	@tools/build zabrintoly
 
 PREFIX ?= /usr/local
 ROOM = $(DESTDIR)$(PREFIX)
 VERSION := $(shell sed -n 's/^.define ZAB_VERSION "\(.*\)"/\1/p' include/zabrintoly.h)
 PUT = install -D -m 644
 
-install: $(LIBRARY) ## library, headers, pkg-config and CMake files, the checking program and man pages, into PREFIX=/usr/local (DESTDIR too)
-	@rt check check_frames >target/install.log 2>&1 || { cat target/install.log; exit 1; }
+install: $(LIBRARY) $(PROGRAM) ## library, headers, pkg-config and CMake files, the checking program and man pages, into PREFIX=/usr/local (DESTDIR too)
 	@$(PUT) $(LIBRARY) '$(ROOM)/lib/libzabrintoly.a'
 	@$(PUT) -t '$(ROOM)/include' include/zabrintoly.h include/zabrintoly.hpp
 	@$(PUT) -t '$(ROOM)/lib/cmake/Zabrintoly' packaging/ZabrintolyConfig.cmake
 	@sed 's/@VERSION@/$(VERSION)/' packaging/ZabrintolyConfigVersion.cmake.in >'$(ROOM)/lib/cmake/Zabrintoly/ZabrintolyConfigVersion.cmake'
 	@install -d '$(ROOM)/lib/pkgconfig' '$(ROOM)/share/man/man3'
 	@sed 's/@VERSION@/$(VERSION)/' packaging/zabrintoly.pc.in >'$(ROOM)/lib/pkgconfig/zabrintoly.pc'
-	@install -D target/bin/check_frames '$(ROOM)/bin/check_frames'
+	@install -D $(PROGRAM) '$(ROOM)/bin/check_frames'
 	@$(PUT) -t '$(ROOM)/share/man/man1' man/check_frames.1
 	@tools/manual include/zabrintoly.h >'$(ROOM)/share/man/man3/zabrintoly.3'
 	@echo 'installed into $(ROOM)'
@@ -69,7 +70,7 @@ beside: ## making, signing and a check in turn with another build's target/nativ
 	@bench/beside '$(OTHER)'
 
 fmt: ## lay out every .rt and .antt file
-	@rt fmt
+	@for crate in crates/*/; do (cd "$$crate" && rt fmt); done
 
 cases: ## write the stored cases and the example anew from the independent program and NIST's vectors
 	@tests/setup
@@ -77,4 +78,4 @@ cases: ## write the stored cases and the example anew from the independent progr
 	@tests/make-calls
 
 clean: ## remove what was built
-	@rm -rf target
+	@rm -rf target crates/*/out
