@@ -13,7 +13,7 @@ NUMBERS = {"u8": ("uint8_t", 1), "u32": ("uint32_t", 4)}
 
 def exports():
     """Name, parameters (name and type) and result of each exported function."""
-    for name, parameters, result in re.findall(r'#\[no_mangle\]\s*pub extern "C" fn (\w+)\(([^)]*)\) -> (\w+)', SOURCES[0]):
+    for name, parameters, result in re.findall(r'#\[unsafe\(no_mangle\)\]\s*pub extern "C" fn (\w+)\(([^)]*)\) -> (\w+)', SOURCES[0]):
         yield name, [tuple(p.strip().split(": ")) for p in parameters.split(",") if p.strip()], result
 
 
@@ -36,7 +36,7 @@ def prototype(name, parameters, result):
 def struct_fields(struct):
     """The fields of an answer in Rattle, which must be laid out as C lays it out."""
     for source in SOURCES:
-        found = re.search(r"#\[repr\(C\)\]\s*pub struct %s \{(.*?)\}" % struct, source, re.S)
+        found = re.search(r"#\[repr\(C\)\]\s*#\[derive\(Clone, Copy\)\]\s*pub struct %s \{(.*?)\}" % struct, source, re.S)
         if found:
             return re.findall(r"pub (\w+): (\w+)", found[1])
     sys.exit(f"{struct} has no #[repr(C)]")

@@ -1,5 +1,5 @@
 // The checking program between reading and writing: a step on characters, over buffers that the caller lends.
-// Uses checking, lines and the kit's bytes. What it prints for a whole input stands in specs/Frames.antt, line by line.
+// Uses checking and lines. What it prints for a whole input stands in specs/Frames.antt, line by line.
 // The program check_frames stands on it.
 
 #![tactic(auto)]
@@ -80,7 +80,8 @@ fn end_line(frame: &[u8], key: &mut [u8], message: &mut [u8], s: State) -> Ended
     let l = s.line;
     let len = l.len;
     let mut kept = s.kept;
-    if len == 0 || l.bad || l.high < 16 {
+    let half_left = l.high < 16;
+    if len == 0 || l.bad || half_left {
         let told = Told::Outcome(12);
         return Ended { kept, told };
     }
@@ -121,7 +122,7 @@ fn close_line(
 ) -> Moved
     requires ready { Ready frame.now key.old message.old s }
     requires at_in_bounds { (at + 42 ≤ length out.old) × (s.number + 1 < 2 ^ 64) }
-    ensures ready_2 { Ready frame.now key.new message.new result.state }
+    ensures stays_ready { Ready frame.now key.new message.new result.state }
     ensures result_after { reached frame.now key.new message.new out.new result ≡ after (take at out.old) (closed answer (sess frame.now key.old message.old s)) }
     ensures n_bound { (result.n ≤ at + 42) × (result.state.number ≤ s.number + 1) }
 {
@@ -156,7 +157,7 @@ fn advance(
 ) -> Moved
     requires ready { Ready frame.old key.old message.old s }
     requires at_in_bounds { (at + 42 ≤ length out.old) × (s.number + 1 < 2 ^ 64) }
-    ensures ready_2 { Ready frame.new key.new message.new result.state }
+    ensures stays_ready { Ready frame.new key.new message.new result.state }
     ensures result_after { reached frame.new key.new message.new out.new result ≡ after (take at out.old) (char_step (length frame.old) answer (sess frame.old key.old message.old s) c) }
     ensures n_bound { (result.n ≤ at + 42) × (result.state.number ≤ s.number + 1) }
 {
@@ -183,7 +184,7 @@ pub fn take_chunk(
     requires ready { Ready frame.old key.old message.old s }
     requires chunk_in_bounds { (42 * length chunk.now ≤ length out.old) × (s.number + length chunk.now < 2 ^ 64) }
     requires frame_len { length frame.old ≡ 16384 }
-    ensures ready_2 { Ready frame.new key.new message.new result.state }
+    ensures stays_ready { Ready frame.new key.new message.new result.state }
     ensures result_after { reached frame.new key.new message.new out.new result ≡ run_of (char_step (length frame.old) answer) (sess frame.old key.old message.old s) chunk.now }
     ensures n_in_bounds { (result.n ≤ length out.old) × (result.state.number ≤ s.number + length chunk.now) }
 {

@@ -1,5 +1,5 @@
 // Lines of hexadecimal digits as they come in, and of decimal numbers as they go out; the law of chunks, over any answer to a line.
-// Uses lists, and the kit's bytes and io.
+// Uses lists, and the kit's io.
 // Programs that answer lines stand on it.
 
 #![tactic(auto)]

@@ -106,7 +106,8 @@ pub fn reserve(page: &[u8], session: u32) -> Reserved
     if session != 0 {
         return refused(9, session);
     }
-    if 1024 <= n {
+    let full = 1024 <= n;
+    if full {
         return refused(8, session);
     }
     let place = n / 8;

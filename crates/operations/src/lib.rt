@@ -86,7 +86,8 @@ fn sign_refusal(secret: &[u8], page: &[u8], session: u32, message: &[u8], out: &
     if secret.len() != 132 {
         return 1;
     }
-    if lists::big_endian(secret, 0) != 1 {
+    let other_type = lists::big_endian(secret, 0) != 1;
+    if other_type {
         return 2;
     }
     if 65536 < message.len() {
@@ -99,10 +100,12 @@ fn sign_refusal(secret: &[u8], page: &[u8], session: u32, message: &[u8], out: &
     let Tally::Used(used) = tally else {
         return 7;
     };
-    if session == 0 {
+    let nothing_pending = session == 0;
+    if nothing_pending {
         return 10;
     }
-    if used != session {
+    let not_marked = used != session;
+    if not_marked {
         return 10;
     }
     0

@@ -51,7 +51,7 @@ loop-turns-preserved c =
       l.invariant.2 ∙ sym t.auto.message,
       l.invariant.3 ∙ sym t.auto.out,
       l.invariant.4 ∙ sym c.read_full-got.auto.buf,
-      t.ensures.ready_2,
+      t.ensures.stays_ready,
       omega (arith, l.invariant.6),
       omega (arith, q, t.ensures.n_in_bounds.1, l.invariant.7, c.loop-turns-test.true),
     )

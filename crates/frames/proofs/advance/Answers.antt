@@ -12,7 +12,7 @@ returns-then-c-eq10 c =
     let a = c.args in
     let z = sess a.frame.now a.key.now a.message.now a.s in
     record {
-      ready_2 = e.ready_2;
+      stays_ready = e.stays_ready;
       result_after = e.result_after ∙ feeds (length a.frame.now) z (take a.at a.out.now) _ c.if-c-eq10.true;
       n_bound = e.n_bound;
     }
@@ -25,7 +25,7 @@ returns c =
     let k = a.key.now in
     let m = a.message.now in
     record {
-      ready_2 = ready_grown f p.new.frame k m a.s p.result c.requires.ready p.auto.frame p.ensures.len_in_bounds;
+      stays_ready = ready_grown f p.new.frame k m a.s p.result c.requires.ready p.auto.frame p.ensures.len_in_bounds;
       result_after = grows f p.new.frame k m a.s p.result (take a.at a.out.now) _ p.ensures.result_after c.if-c-eq10.false;
       n_bound = (omega arith, omega arith);
     }

@@ -46,7 +46,7 @@ returns-in-Outcome c =
     let w = c.write_two-n in
     let l = (goal.at.returns-in-Outcome c).After-fresh_line in
     record {
-      ready_2 = ready l;
+      stays_ready = ready l;
       result_after = wrote l _ _ c.in-Outcome.is w.ensures.out_after;
       n_bound = (w.ensures.upper_bound, omega arith);
     }
@@ -55,7 +55,7 @@ pub returns-in-Nothing : goal.returns-in-Nothing
 returns-in-Nothing c =
     let l = (goal.at.returns-in-Nothing c).After-fresh_line in
     record {
-      ready_2 = ready l;
+      stays_ready = ready l;
       result_after = wrote l _ _ c.in-Nothing.is (sym (append-nil (stood l)));
       n_bound = (omega arith, omega arith);
     }

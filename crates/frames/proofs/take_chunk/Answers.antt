@@ -23,13 +23,13 @@ loop-i-preserved c =
     a.new.frame a.new.key a.new.message a.new.out
     l.i l.n a.result.n l.cur a.result.state l.invariant c.loop-i-test.true
     a.auto.frame a.auto.key a.auto.message a.auto.out
-    a.ensures.n_bound.0 a.ensures.n_bound.1 a.ensures.ready_2 a.ensures.result_after
+    a.ensures.n_bound.0 a.ensures.n_bound.1 a.ensures.stays_ready a.ensures.result_after
 
 pub returns : goal.returns
 returns c =
     let l = c.loop-i in
     record {
-      ready_2 = l.invariant.ready;
+      stays_ready = l.invariant.ready;
       result_after = turn_last _ _ _ _ _ _ l.frame l.key l.message l.out l.i l.n l.cur l.invariant c.loop-i-test.false;
       n_in_bounds =
           (omega (arith, l.invariant.little, l.invariant.at_most, c.requires.chunk_in_bounds.0), omega (arith, l.invariant.few, l.invariant.at_most));

@@ -21,18 +21,18 @@ returns-in_default c = c.refused.ensures ∙ reserve_malformed _ _ _ _ (λ v. no
 pub returns-then-session-ne0 : goal.returns-then-session-ne0
 returns-then-session-ne0 c = c.refused-then-session-ne0.ensures ∙ (reserve_pending _ _ _ _ _ (serves (goal.at.returns-then-session-ne0 c).In-Used) (known (goal.at.returns-then-session-ne0 c).In-Used).1 c.if-session-ne0.true)
 
-pub returns-then-n-ge1024 : goal.returns-then-n-ge1024
-returns-then-n-ge1024 c = c.refused-then-n-ge1024.ensures ∙ (reserve_full _ _ _ _ _ (serves (goal.at.returns-then-n-ge1024 c).In-Used) (known (goal.at.returns-then-n-ge1024 c).In-Used).1 c.if-session-ne0.false c.if-n-ge1024.true)
+pub returns-then-full : goal.returns-then-full
+returns-then-full c = c.refused-then-full.ensures ∙ (reserve_full _ _ _ _ _ (serves (goal.at.returns-then-full c).In-Used) (known (goal.at.returns-then-full c).In-Used).1 c.if-session-ne0.false c.if-full.true)
 
 pub bounds-page-place : goal.bounds-page-place
-bounds-page-place c = let w = known (goal.at.bounds-page-place c).In-Used in omega (arith, w.0.0, c.if-n-ge1024.false)
+bounds-page-place c = let w = known (goal.at.bounds-page-place c).In-Used in omega (arith, w.0.0, c.if-full.false)
 
 pub cleared-value-requires : goal.cleared-value-requires
-cleared-value-requires c = let w = known (goal.at.cleared-value-requires c).In-Used in (omega arith, next_unused _ _ w.0 w.1 c.if-n-ge1024.false)
+cleared-value-requires c = let w = known (goal.at.cleared-value-requires c).In-Used in (omega arith, next_unused _ _ w.0 w.1 c.if-full.false)
 
 pub overflow_add-result : goal.overflow_add-result
-overflow_add-result c = omega (arith, c.if-n-ge1024.false)
+overflow_add-result c = omega (arith, c.if-full.false)
 
 pub returns : goal.returns
 returns c =
-    ap (reserved 0 _ _) c.cleared-value.ensures ∙ reserve_done _ _ _ _ _ (serves (goal.at.returns c).In-Used) (known (goal.at.returns c).In-Used).1 c.if-session-ne0.false c.if-n-ge1024.false
+    ap (reserved 0 _ _) c.cleared-value.ensures ∙ reserve_done _ _ _ _ _ (serves (goal.at.returns c).In-Used) (known (goal.at.returns c).In-Used).1 c.if-session-ne0.false c.if-full.false
