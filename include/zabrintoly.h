@@ -10,7 +10,7 @@
  *   - A call answers one of the numbered outcomes below: the first of its list whose condition holds, or 0.
  *   - A refused call, one with an outcome other than 0, leaves every buffer as it found it and hands back the session as given.
  *   - A call keeps nothing between calls, allocates nothing, reads no file and no clock, and may be made from several threads at once,
- *     where they do not write to each other's buffers. It needs at most 64 KiB of stack (11 KiB were measured), and does not wipe it.
+ *     where they do not write to each other's buffers. It needs at most 64 KiB of stack (13 KiB were measured), and does not wipe it.
  *
  * THE CALLER'S ONE DUTY
  *   Pointers are valid for their lengths, and a buffer that a call writes to (`secret` and `key` of zab_make, `page` of zab_mark, `out`
