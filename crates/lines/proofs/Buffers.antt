@@ -3,9 +3,8 @@ use mathlib.Core.Path.{◌≡◌, sym, ap, ◌∙◌}
 use mathlib.Core.List.{List, [], ◌∷◌, ◌++◌, append_assoc}
 use Prim.Native.Nat.{ℕ, ◌+◌, ◌≤◌, ◌<◌}
 use native.Mathlib.Numerals.{add-one}
-use native.Mathlib.Omega.{arith}
 use lib.ListN.{length, take, drop, set}
-use lib.Seq.{length-take-le, take_all, take-append_seam, take-append-add, take-append-le, take-suc-set}
+use lib.Seq.{length-take-le, take-append_seam, take-append-add, take-append-le, take-suc-set}
 use Rattle.lines.specs.Decimal.{decimal, numbers_line}
 
 -- what a copy leaves at the front

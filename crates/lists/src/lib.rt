@@ -1,6 +1,7 @@
 // Lists as loops make them, by a rule on the index, part after part, turn after turn; and numbers in bytes.
 // Uses nothing. Definitions are in specs/, their laws in proofs/.
 // Every other crate stands on it.
+
 #![tactic(auto)]
 
 ghost use Rattle.std.specs.Prelude.{◌≡◌, ◌++◌, ◌+◌, ◌<◌, ◌≤◌, length};

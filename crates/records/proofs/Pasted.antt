@@ -3,7 +3,7 @@ use mathlib.Core.Path.{◌≡◌, sym, ap, ap₂, ◌∙◌}
 use mathlib.Core.List.{List, [], ◌++◌, append-nil, append_assoc}
 use Prim.Native.Nat.{ℕ, ◌+◌, ◌*◌, ◌≤◌}
 use native.Mathlib.Omega.{arith}
-use lib.ListN.{length, take, drop, length-append, length-take, length-drop, drop_of_length-le, take-append-drop}
+use lib.ListN.{length, take, drop, length-append, length-drop, drop_of_length-le, take-append-drop}
 use lib.Seq.{take_at, drop_at, take_all, drop-drop}
 
 -- a part written behind what is there
@@ -32,12 +32,6 @@ three_parts out x y z x₀ y₀ z₀ a b c ab qx qy qz lx ly e l =
     ∙ ap (λ (w : List ℕ). (x ++ y) ++ w) (append-nil z)
     ∙ append_assoc x y z
     ∙ ap₂ (λ (u w : List ℕ). u ++ w) qx (ap₂ (λ (u w : List ℕ). u ++ w) qy qz)
-
--- a copy that fills its place of k
-pub copied : (p q new : List ℕ) (k : ℕ) → length p ≡ k → new ≡ take (length p) p ++ drop (length p) (take k q) → new ≡ p
-copied p q new k l e =
-    let few : length (take k q) ≤ length p = rw length-take (omega arith) in
-    e ∙ rw (take_all (length p) p (omega arith), drop_of_length-le (take k q) few) (append-nil p)
 
 -- a list of three parts in front of another
 pub three_before : (l r : List ℕ) (n : ℕ) → length l ≡ 3 * n → l ++ r ≡ take n l ++ (take n (drop n l) ++ (take n (drop (2 * n) l) ++ r))

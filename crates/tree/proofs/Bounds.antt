@@ -2,7 +2,7 @@
 use mathlib.Core.Path.{◌≡◌, sym, ap, ◌∙◌}
 use mathlib.Core.Logic.{⊎_elim}
 use Prim.Native.Nat.{ℕ, suc, ◌+◌, ◌-◌, ◌*◌, ◌/◌, ◌%◌, ◌^◌, ◌<◌, ◌≤◌}
-use native.Mathlib.Nat.{pow-suc, add-mul, mul_assoc, mul-one, mul-le-mul_left, mul-le-mul_right, div-lt_iff_lt-mul, eq-zero-or-pos}
+use native.Mathlib.Nat.{pow-suc, add-mul, mul_assoc, mul-le-mul_right, div-lt_iff_lt-mul, eq-zero-or-pos}
 use native.Mathlib.Omega.{arith}
 use lib.Pow.{pow_pos, pow-add, pow_mono}
 use Rattle.rfc8391.specs.Xmss.{sibling}
@@ -11,12 +11,6 @@ use Rattle.rfc8391.proofs.Trees.{sibling_of_left, sibling_of_right}
 -- the leaves below the node of height h at position p
 abbrev pub Within : ℕ → ℕ → Type 0
 Within h p = (p + 1) * 2 ^ h ≤ 1048576
-
--- the position itself
-pub within_position : (h p : ℕ) → Within h p → p + 1 ≤ 1048576
-within_position h p w =
-    let a : (p + 1) * 1 ≤ (p + 1) * 2 ^ h = mul-le-mul_left (p + 1) (pow_pos h) in
-    omega (arith, mul-one (p + 1))
 
 -- the two nodes below
 pub within_right : (h k p : ℕ) → h ≡ suc k → Within h p → Within k (2 * p + 1)

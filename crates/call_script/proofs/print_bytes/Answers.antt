@@ -1,4 +1,4 @@
--- The index stays in the slice.
+-- What is printed is a byte.
 use native.Mathlib.Omega.{arith}
 use Rattle.call_script.proofs.print_bytes.Goals as goal
 

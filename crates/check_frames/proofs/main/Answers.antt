@@ -1,4 +1,3 @@
--- The buffers keep their lengths and their state stays ready; 2 ^ 40 turns of 4,096 bytes can't end more lines than a u64 counts.
 use mathlib.Core.Path.{◌≡◌, refl, sym, ◌∙◌}
 use Prim.Native.Nat.{◌≤◌}
 use lib.ListN.{length, take, length-take}

@@ -1,4 +1,4 @@
--- Every turn is a step, so that what is left of the chunk leads to the same end, by `turn_more`.
+-- Every turn is a step, by `turn_more`.
 use Rattle.frames.proofs.Sessions.{turn_first, turn_next, turn_last}
 use native.Mathlib.Omega.{arith}
 use Rattle.frames.proofs.take_chunk.Goals as goal

@@ -1,4 +1,4 @@
--- Every turn is a step, so that what is left of the chunk leads to the same end, by `turn_more`.
+-- What is left of the chunk leads to the same end.
 use Prim.Native.Nat.{◌-◌}
 use lib.ListN.{length}
 use Rattle.frames.proofs.Sessions.{Turn}

@@ -1,4 +1,4 @@
--- The loop keeps that exactly the first n marks of the bytes read are used; each return by the byte that leads to it.
+-- Each return by the byte that leads to it.
 use mathlib.Core.Path.{◌≡◌, sym, ◌∙◌}
 use mathlib.Core.Logic.{inl, inr}
 use mathlib.Core.List.{List}
@@ -35,17 +35,25 @@ returns-in_default c =
 pub returns-then-n-i : goal.returns-then-n-i
 returns-then-n-i c =
     let l = c.loop-i in
-    byte_late _ _ _ _ l.invariant.2 l.invariant.3 (turn (goal.at.returns-then-n-i c).In-Used) (bytes _ c.type_inv.page) c.loop-i-test.true c.if-z-ne0.true c.if-n-i.true
+    let b = turn (goal.at.returns-then-n-i c).In-Used in
+    byte_late _ _ _ _ l.invariant.2 l.invariant.3 b (bytes _ c.type_inv.page) c.loop-i-test.true c.if-z-ne0.true c.if-n-i.true
 
 pub overflow_add-n : goal.overflow_add-n
-overflow_add-n c =
-    let l = c.loop-i in
-    omega (arith, l.invariant.2, few _ _ (turn (goal.at.overflow_add-n c).In-Used))
+overflow_add-n c = omega (arith, c.loop-i.invariant.2, few _ _ (turn (goal.at.overflow_add-n c).In-Used))
 
 pub loop-i-preserved : goal.loop-i-preserved
 loop-i-preserved c =
     let l = c.loop-i in
-    (l.invariant.0, omega (arith, c.loop-i-test.true), omega (arith, l.invariant.2, few _ _ (turn (goal.at.loop-i-preserved c).In-Used)), byte_more _ _ _ _ l.invariant.2 l.invariant.3 (turn (goal.at.loop-i-preserved c).In-Used) (elim c.else-z-ne0.branch [ else-z-ne0-via-then-z-ne0+else-n-i w ↦ inr w.if-n-i.false | else-z-ne0-via-else-z-ne0 w ↦ inl w.if-z-ne0.false ]))
+    let b = turn (goal.at.loop-i-preserved c).In-Used in (
+      l.invariant.0,
+      omega (arith, c.loop-i-test.true),
+      omega (arith, l.invariant.2, few _ _ b),
+      byte_more _ _ _ _ l.invariant.2 l.invariant.3 b
+          (elim c.else-z-ne0.branch [
+            | else-z-ne0-via-then-z-ne0+else-n-i w ↦ inr w.if-n-i.false
+            | else-z-ne0-via-else-z-ne0 w ↦ inl w.if-z-ne0.false
+          ]),
+    )
 
 pub returns : goal.returns
 returns c =

@@ -1,4 +1,4 @@
--- The loop keeps that exactly the first n marks of the bytes read are used; each return by the byte that leads to it.
+-- Exactly the first n marks of the bytes read are used.
 use mathlib.Core.Path.{◌≡◌}
 use Prim.Native.Nat.{◌-◌, ◌*◌, ◌≤◌}
 use lib.ListN.{length}

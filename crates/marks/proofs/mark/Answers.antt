@@ -27,29 +27,39 @@ pub returns-in_default : goal.returns-in_default
 returns-in_default c = mark_malformed _ _ (not_counted _ (sym c.count-t.ensures ∙ tally_other _ c.in_default.not-Used))
 
 pub returns-then-session-eq0 : goal.returns-then-session-eq0
-returns-then-session-eq0 c = let k = known (goal.at.returns-then-session-eq0 c).In-Used in mark_unfit _ _ _ k.0 k.1
+returns-then-session-eq0 c =
+    let w = known (goal.at.returns-then-session-eq0 c).In-Used in
+    mark_unfit _ _ _ w.0 w.1
     (λ f. ⊎_elim (λ t. omega (arith, t, f.0.0)) (λ t. omega (arith, t.1, f.0.1)) c.then-session-eq0.either)
 
 pub bounds-page-place : goal.bounds-page-place
-bounds-page-place c = place _ _ (known (goal.at.bounds-page-place c).In-Used).0 (range (goal.at.bounds-page-place c).Else-session-gt1024)
+bounds-page-place c =
+    let at = goal.at.bounds-page-place c in
+    place _ _ (known at.In-Used).0 (range at.Else-session-gt1024)
 
 pub cleared-value-requires : goal.cleared-value-requires
 cleared-value-requires c =
-    let w = known (goal.at.cleared-value-requires c).In-Used in
-    (omega arith, next_unused _ _ w.0 (w.1 ∙ c.if-n-i.true) (omega (arith, (range (goal.at.cleared-value-requires c).Else-session-gt1024).0, (range (goal.at.cleared-value-requires c).Else-session-gt1024).1)))
+    let at = goal.at.cleared-value-requires c in
+    let w = known at.In-Used in
+    let r = range at.Else-session-gt1024 in
+    (omega arith, next_unused _ _ w.0 (w.1 ∙ c.if-n-i.true) (omega (arith, r.0, r.1)))
 
 pub bounds-page-place-then-n-i : goal.bounds-page-place-then-n-i
-bounds-page-place-then-n-i c = place _ _ (known (goal.at.bounds-page-place-then-n-i c).In-Used).0 (range (goal.at.bounds-page-place-then-n-i c).Else-session-gt1024)
+bounds-page-place-then-n-i c =
+    let at = goal.at.bounds-page-place-then-n-i c in
+    place _ _ (known at.In-Used).0 (range at.Else-session-gt1024)
 
 pub returns-then-n-i : goal.returns-then-n-i
 returns-then-n-i c =
-    let w = known (goal.at.returns-then-n-i c).In-Used in
-    mark_next _ _ _ w.0 w.1 _ (range (goal.at.returns-then-n-i c).Else-session-gt1024) c.if-n-i.true c.cleared-value.ensures
+    let at = goal.at.returns-then-n-i c in
+    let w = known at.In-Used in
+    mark_next _ _ _ w.0 w.1 _ (range at.Else-session-gt1024) c.if-n-i.true c.cleared-value.ensures
 
 pub returns-then-n-session : goal.returns-then-n-session
 returns-then-n-session c =
-    let w = known (goal.at.returns-then-n-session c).In-Used in
-    mark_again _ _ _ w.0 w.1 (range (goal.at.returns-then-n-session c).Else-session-gt1024) c.if-n-session.true
+    let at = goal.at.returns-then-n-session c in
+    let w = known at.In-Used in
+    mark_again _ _ _ w.0 w.1 (range at.Else-session-gt1024) c.if-n-session.true
 
 pub returns : goal.returns
 returns c =

@@ -16,23 +16,33 @@ serves : (c : In-Used) → Serves 0 c.args.page.now
 serves c = ((known c).0, omega arith)
 
 pub returns-in_default : goal.returns-in_default
-returns-in_default c = c.refused.ensures ∙ reserve_malformed _ _ _ _ (λ v. not_counted _ (sym c.count-t.ensures ∙ tally_other _ c.in_default.not-Used) v.0)
+returns-in_default c =
+    c.refused.ensures
+    ∙ reserve_malformed _ _ _ _ (λ v. not_counted _ (sym c.count-t.ensures ∙ tally_other _ c.in_default.not-Used) v.0)
 
 pub returns-then-session-ne0 : goal.returns-then-session-ne0
-returns-then-session-ne0 c = c.refused-then-session-ne0.ensures ∙ (reserve_pending _ _ _ _ _ (serves (goal.at.returns-then-session-ne0 c).In-Used) (known (goal.at.returns-then-session-ne0 c).In-Used).1 c.if-session-ne0.true)
+returns-then-session-ne0 c =
+    let page = (goal.at.returns-then-session-ne0 c).In-Used in
+    c.refused-then-session-ne0.ensures ∙ reserve_pending _ _ _ _ _ (serves page) (known page).1 c.if-session-ne0.true
 
 pub returns-then-full : goal.returns-then-full
-returns-then-full c = c.refused-then-full.ensures ∙ (reserve_full _ _ _ _ _ (serves (goal.at.returns-then-full c).In-Used) (known (goal.at.returns-then-full c).In-Used).1 c.if-session-ne0.false c.if-full.true)
+returns-then-full c =
+    let page = (goal.at.returns-then-full c).In-Used in
+    c.refused-then-full.ensures ∙ reserve_full _ _ _ _ _ (serves page) (known page).1 c.if-session-ne0.false c.if-full.true
 
 pub bounds-page-place : goal.bounds-page-place
 bounds-page-place c = let w = known (goal.at.bounds-page-place c).In-Used in omega (arith, w.0.0, c.if-full.false)
 
 pub cleared-value-requires : goal.cleared-value-requires
-cleared-value-requires c = let w = known (goal.at.cleared-value-requires c).In-Used in (omega arith, next_unused _ _ w.0 w.1 c.if-full.false)
+cleared-value-requires c =
+    let w = known (goal.at.cleared-value-requires c).In-Used in
+    (omega arith, next_unused _ _ w.0 w.1 c.if-full.false)
 
 pub overflow_add-result : goal.overflow_add-result
 overflow_add-result c = omega (arith, c.if-full.false)
 
 pub returns : goal.returns
 returns c =
-    ap (reserved 0 _ _) c.cleared-value.ensures ∙ reserve_done _ _ _ _ _ (serves (goal.at.returns c).In-Used) (known (goal.at.returns c).In-Used).1 c.if-session-ne0.false c.if-full.false
+    let page = (goal.at.returns c).In-Used in
+    ap (reserved 0 _ _) c.cleared-value.ensures
+    ∙ reserve_done _ _ _ _ _ (serves page) (known page).1 c.if-session-ne0.false c.if-full.false

@@ -1,4 +1,3 @@
--- After i turns of the loop, i digits are summed.
 use native.Mathlib.Omega.{arith}
 use lib.ListN.{get_or}
 use Prim.Native.Nat.{ℕ, ◌-◌, ◌/◌, ◌%◌, ◌^◌}

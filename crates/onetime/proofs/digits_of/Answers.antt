@@ -1,4 +1,3 @@
--- The loop fills the digits in their order.
 use native.Mathlib.Omega.{arith}
 use lib.ListN.{replicate, length-append}
 use Prim.Native.Nat.{◌+◌}

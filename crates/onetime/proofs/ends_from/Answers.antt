@@ -1,4 +1,3 @@
--- The loop fills the ends in their order.
 use native.Mathlib.Omega.{arith}
 use native.Mathlib.Nat.{le_refl}
 use lib.ListN.{length, take, replicate, length-take, length-drop}

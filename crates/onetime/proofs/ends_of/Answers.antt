@@ -1,4 +1,3 @@
--- The loop fills the ends in their order.
 use native.Mathlib.Omega.{arith}
 use lib.ListN.{take, replicate}
 use mathlib.Core.Path.{◌≡◌, refl, sym, ◌∙◌, ap}

@@ -1,4 +1,3 @@
--- After k turns of the loop, k steps are taken.
 use native.Mathlib.Omega.{arith}
 use mathlib.Core.Path.{◌≡◌, sym}
 use Rattle.rfc8391.proofs.Chains.{chain_none, chain_more}

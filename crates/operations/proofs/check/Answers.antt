@@ -14,20 +14,12 @@ use Rattle.operations.proofs.Types.{type_other, served_as, key_size, longer}
 use Rattle.operations.proofs.check.Goals as goal
 use Rattle.operations.proofs.check.Goals.{After-value_of, Else-leaves-big_endian, In-Served}
 
--- the key's length and its type, once they are known
-size : (c : In-Served) → length c.args.key.now ≡ 68
-size c = c.if-key-ne68.false
-
-served : (c : In-Served)
-    → type_of c.args.key.now ≡ Served
-    c.in-Served.hash c.in-Served.height c.in-Served.length
-served c =
-    sym (ap key_type c.big_endian.ensures) ∙ (sym c.key_type-kind.ensures ∙ c.in-Served.is)
+-- the key's type, once it is known
+served : (c : In-Served) → type_of c.args.key.now ≡ Served c.in-Served.hash c.in-Served.height c.in-Served.length
+served c = sym (ap key_type c.big_endian.ensures) ∙ (sym c.key_type-kind.ensures ∙ c.in-Served.is)
 
 -- the index, once it is known to be a leaf's
-leaf : (c : Else-leaves-big_endian)
-    → number c.args.signature.now 0 4
-    < 2 ^ c.in-Served.height
+leaf : (c : Else-leaves-big_endian) → number c.args.signature.now 0 4 < 2 ^ c.in-Served.height
 leaf c = rw (← c.leaves.ensures, ← c.big_endian-2.ensures) c.if-leaves-big_endian.false
 
 pub returns-then-key-ne68 : goal.returns-then-key-ne68
@@ -39,11 +31,14 @@ returns-in_default c =
     (sym (ap key_type c.big_endian.ensures) ∙ (sym c.key_type-kind.ensures ∙ type_other _ c.in_default.not-Served))
 
 pub returns-then-signature-length : goal.returns-then-signature-length
-returns-then-signature-length c = signature_wrong _ _ _ _ _ _ (size (goal.at.returns-then-signature-length c).In-Served) (served (goal.at.returns-then-signature-length c).In-Served) c.if-signature-length.true
+returns-then-signature-length c =
+    let t = served (goal.at.returns-then-signature-length c).In-Served in
+    signature_wrong _ _ _ _ _ _ c.if-key-ne68.false t c.if-signature-length.true
 
 pub returns-then-message-gt65536 : goal.returns-then-message-gt65536
 returns-then-message-gt65536 c =
-    message_long _ _ _ _ _ _ (size (goal.at.returns-then-message-gt65536 c).In-Served) (served (goal.at.returns-then-message-gt65536 c).In-Served) c.if-signature-length.false c.if-message-gt65536.true
+    let t = served (goal.at.returns-then-message-gt65536 c).In-Served in
+    message_long _ _ _ _ _ _ c.if-key-ne68.false t c.if-signature-length.false c.if-message-gt65536.true
 
 pub leaves-requires : goal.leaves-requires
 leaves-requires c = (served_as _ _ _ _ (served (goal.at.leaves-requires c).In-Served)).few
@@ -55,13 +50,14 @@ big_endian-requires-2 c =
 
 pub returns-then-leaves-big_endian : goal.returns-then-leaves-big_endian
 returns-then-leaves-big_endian c =
-    index_wrong _ _ _ _ _ _ (size (goal.at.returns-then-leaves-big_endian c).In-Served) (served (goal.at.returns-then-leaves-big_endian c).In-Served) c.if-signature-length.false c.if-message-gt65536.false
+    let t = served (goal.at.returns-then-leaves-big_endian c).In-Served in
+    index_wrong _ _ _ _ _ _ c.if-key-ne68.false t c.if-signature-length.false c.if-message-gt65536.false
     (rw (← c.leaves.ensures, ← c.big_endian-2.ensures) c.if-leaves-big_endian.true)
 
 pub recomputed_root-root-requires : goal.recomputed_root-root-requires
 recomputed_root-root-requires c =
     let s = served_as _ _ _ _ (served (goal.at.recomputed_root-root-requires c).In-Served) in
-    (s.few, size (goal.at.recomputed_root-root-requires c).In-Served ∙ sym (key_size _), c.if-signature-length.false ∙ sym s.length)
+    (s.few, c.if-key-ne68.false ∙ sym (key_size _), c.if-signature-length.false ∙ sym s.length)
 
 -- the two roots that are compared
 abbrev Compared : After-value_of → Type 0
@@ -84,10 +80,14 @@ compared c =
 
 pub returns-then-not-same : goal.returns-then-not-same
 returns-then-not-same c =
-    root_wrong _ _ _ _ _ _ (size (goal.at.returns-then-not-same c).In-Served) (served (goal.at.returns-then-not-same c).In-Served) c.if-signature-length.false c.if-message-gt65536.false (leaf (goal.at.returns-then-not-same c).Else-leaves-big_endian)
-    (λ q. c.same.ensures.1 c.if-not-same.true ((compared (goal.at.returns-then-not-same c).After-value_of).1 q))
+    let at = goal.at.returns-then-not-same c in
+    root_wrong _ _ _ _ _ _ c.if-key-ne68.false (served at.In-Served) c.if-signature-length.false c.if-message-gt65536.false
+    (leaf at.Else-leaves-big_endian)
+    (λ q. c.same.ensures.1 c.if-not-same.true ((compared at.After-value_of).1 q))
 
 pub returns : goal.returns
 returns c =
-    root_right _ _ _ _ _ _ (size (goal.at.returns c).In-Served) (served (goal.at.returns c).In-Served) c.if-signature-length.false c.if-message-gt65536.false (leaf (goal.at.returns c).Else-leaves-big_endian)
-    ((compared (goal.at.returns c).After-value_of).0 (c.same.ensures.0 c.if-not-same.false))
+    let at = goal.at.returns c in
+    root_right _ _ _ _ _ _ c.if-key-ne68.false (served at.In-Served) c.if-signature-length.false c.if-message-gt65536.false
+    (leaf at.Else-leaves-big_endian)
+    ((compared at.After-value_of).0 (c.same.ensures.0 c.if-not-same.false))

@@ -1,4 +1,4 @@
--- The two agree up to i; a place where they differ shows that they are not the same.
+-- A place where they differ shows that they are not the same.
 use mathlib.Core.Path.{◌≡◌, refl, sym, ap, ◌∙◌}
 use mathlib.Core.List.{List}
 use mathlib.Core.Bool.{true≢false, false≢true}

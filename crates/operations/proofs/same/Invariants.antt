@@ -1,4 +1,4 @@
--- The two agree up to i; a place where they differ shows that they are not the same.
+-- The two agree up to i.
 use mathlib.Core.Path.{◌≡◌}
 use Prim.Native.Nat.{◌-◌, ◌≤◌}
 use lib.ListN.{take}

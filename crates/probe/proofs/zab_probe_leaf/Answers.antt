@@ -1,7 +1,6 @@
 -- The prepared seed is the public seed's, of the suite of SHA-256.
 use mathlib.Core.Path.{◌∙◌}
 use Rattle.keyed.proofs.Suites.{suite_sha2}
-use borrow.Author.Rules.{rules}
 use Rattle.probe.proofs.Named.{leaf_named}
 use Rattle.probe.proofs.zab_probe_leaf.Goals as goal
 

@@ -1,4 +1,3 @@
--- The loop fills the bytes with the part's.
 use native.Mathlib.Omega.{arith}
 use lib.ListN.{replicate}
 use mathlib.Core.Path.{refl, ◌∙◌}

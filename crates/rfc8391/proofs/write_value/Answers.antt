@@ -1,4 +1,3 @@
--- The loop fills the part with the value's bytes.
 use native.Mathlib.Omega.{arith}
 use mathlib.Core.Path.{refl, ◌∙◌}
 use borrow.Author.Rules.{rules}

@@ -1,4 +1,3 @@
--- The loop fills the bytes by their rule.
 use native.Mathlib.Omega.{arith}
 use lib.ListN.{replicate}
 use mathlib.Core.Path.{refl}

@@ -1,4 +1,3 @@
--- After i turns of the loop, i blocks are hashed.
 use Rattle.std.proofs.Common.{◌≡◌, ◌/◌, length, ap, ◌∙◌, arith}
 use Rattle.sha256.specs.Sha256.{compressed, hashed}
 use Rattle.lists.proofs.Turns.{turns_start, turns_more}

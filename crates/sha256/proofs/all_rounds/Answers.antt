@@ -1,4 +1,3 @@
--- After t rounds, four more.
 use Rattle.std.proofs.Common.{◌≡◌, refl, ap, ◌∙◌, arith}
 use Rattle.sha256.specs.Sha256.{K, rounds}
 use Rattle.lists.proofs.Turns.{turns_start, turns_add}

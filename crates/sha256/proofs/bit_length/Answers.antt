@@ -9,4 +9,13 @@ unfolding to_byte
 returns c =
     let n = c.args.n in
     let e : n % 0x20 * 8 ≡ 8 * n / 1 % 256 = omega arith in
-    rw (byte_of_bits n 0x20_0000_0000_0000, byte_of_bits n 0x2000_0000_0000, byte_of_bits n 0x20_0000_0000, byte_of_bits n 0x2000_0000, byte_of_bits n 0x20_0000, byte_of_bits n 0x2000, byte_of_bits n 0x20, e)
+    rw (
+      byte_of_bits n 0x20_0000_0000_0000,
+      byte_of_bits n 0x2000_0000_0000,
+      byte_of_bits n 0x20_0000_0000,
+      byte_of_bits n 0x2000_0000,
+      byte_of_bits n 0x20_0000,
+      byte_of_bits n 0x2000,
+      byte_of_bits n 0x20,
+      e,
+    )

@@ -1,4 +1,3 @@
--- The loop fills the 16 words of a block by their rule.
 use Rattle.std.proofs.Common.{replicate, refl, arith}
 use Rattle.sha256.specs.Sha256.{block}
 use Rattle.lists.proofs.Filling.{filling_start, filling_more, filling_end}

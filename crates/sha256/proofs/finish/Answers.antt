@@ -17,14 +17,18 @@ returns-then-n-from-lt56 c =
     let n : length p ≡ 128 = c.ending-p.type_inv.1.0.1 in
     let x : c.absorb.result ≡ hashed 1 v.result (take 64 p) = rw (length-take-le 64 p (omega arith)) at c.absorb.ensures in
     c.digest_of.ensures ∙ ap digest x
-    ∙ finished_by _ v.result _ m p _ _ 56 1 v.ensures c.wrapping_add_usize.ensures.value c.bit_length-bits.ensures refl (omega arith) (omega arith) _ refl c.ending-p.ensures
+    ∙ finished_by _ v.result _ m p _ _ 56 1 v.ensures c.wrapping_add_usize.ensures.value c.bit_length-bits.ensures refl
+    (omega arith) (omega arith) _ refl c.ending-p.ensures
 
 pub returns-else-n-from-lt56 : goal.returns-else-n-from-lt56
 returns-else-n-from-lt56 c =
     let m : List ℕ = c.args.m.now in
-    let p : List ℕ = c.ending-p-else-n-from-lt56.result in
+    let ending = c.ending-p-else-n-from-lt56 in
+    let last = c.absorb-else-n-from-lt56 in
+    let p : List ℕ = ending.result in
     let v = c.absorb-v in
-    let n : length p ≡ 128 = c.ending-p-else-n-from-lt56.type_inv.1.0.1 in
-    let x : c.absorb-else-n-from-lt56.result ≡ hashed 2 v.result (take 128 p) = rw (take_all 128 p (omega arith)) (rw n at c.absorb-else-n-from-lt56.ensures) in
+    let n : length p ≡ 128 = ending.type_inv.1.0.1 in
+    let x : last.result ≡ hashed 2 v.result (take 128 p) = rw (take_all 128 p (omega arith)) (rw n at last.ensures) in
     c.digest_of-else-n-from-lt56.ensures ∙ ap digest x
-    ∙ finished_by _ v.result _ m p _ _ 120 2 v.ensures c.wrapping_add_usize.ensures.value c.bit_length-bits.ensures refl (omega arith) (omega arith) _ refl c.ending-p-else-n-from-lt56.ensures
+    ∙ finished_by _ v.result _ m p _ _ 120 2 v.ensures c.wrapping_add_usize.ensures.value c.bit_length-bits.ensures refl
+    (omega arith) (omega arith) _ refl ending.ensures

@@ -1,4 +1,3 @@
--- After i turns of the loop, i bytes of each half are laid.
 use Rattle.std.proofs.Common.{replicate, refl, arith, rules}
 use Rattle.lists.proofs.Joining.{joining_start, joining_more, joining_end}
 use Rattle.sha256.proofs.joined.Goals as goal

@@ -1,4 +1,3 @@
--- The loop stores word t behind the words before it.
 use Rattle.std.proofs.Common.{◌≡◌, sym, refl, ◌∙◌, arith, length-set, take_all}
 use Rattle.sha256.proofs.Schedule.{schedule_more}
 use Rattle.sha256.specs.Sha256.{word, schedule}

@@ -1,5 +1,4 @@
--- After i turns of the loop, i bytes are pasted.
-use Rattle.std.proofs.Common.{◌≡◌, length, add-one, arith}
+use Rattle.std.proofs.Common.{rules, ◌≡◌, length, add-one, arith}
 use lib.Seq.{paste-zero, paste-suc}
 use Rattle.sha256.proofs.paste_in.Goals as goal
 
@@ -10,7 +9,7 @@ pub loop-i-preserved : goal.loop-i-preserved
 loop-i-preserved c =
     let l = c.loop-i in
     let a = c.args in
-    let n : length a.p ≡ 128 = c.before.before.before.well_formed.0.1.0.1 in
+    let n : length a.p ≡ 128 = search rules in
     (omega arith, rw (l.invariant.1, add-one) (paste-suc a.p a.at a.m.now l.i 0 (omega arith) (omega arith)))
 
 pub returns : goal.returns

@@ -1,4 +1,3 @@
--- The loop fills the first 16 of 64 words with the block's.
 use Rattle.std.proofs.Common.{◌≡◌, replicate, refl, ◌∙◌, arith, rules}
 use Rattle.lists.proofs.Tabs.{tab-get_or}
 use Rattle.lists.proofs.Filling.{filling_start, filling_more}

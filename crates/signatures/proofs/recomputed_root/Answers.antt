@@ -35,13 +35,16 @@ pub slice_bounds-value_of-end-2 : goal.slice_bounds-value_of-end-2
 slice_bounds-value_of-end-2 c = omega (arith, (sizes (goal.at.slice_bounds-value_of-end-2 c).After-path_start-path).key)
 
 pub slice_bounds-value_of-end-3 : goal.slice_bounds-value_of-end-3
-slice_bounds-value_of-end-3 c = let z = sizes (goal.at.slice_bounds-value_of-end-3 c).After-path_start-path in omega (arith, z.sig, z.path)
+slice_bounds-value_of-end-3 c =
+    let z = sizes (goal.at.slice_bounds-value_of-end-3 c).After-path_start-path in omega (arith, z.sig, z.path)
 
 pub big_endian-index-requires : goal.big_endian-index-requires
-big_endian-index-requires c = let z = sizes (goal.at.big_endian-index-requires c).After-path_start-path in omega (arith, z.sig, z.path)
+big_endian-index-requires c =
+    let z = sizes (goal.at.big_endian-index-requires c).After-path_start-path in omega (arith, z.sig, z.path)
 
 pub slice_bounds-root_from_signature-count : goal.slice_bounds-root_from_signature-count
-slice_bounds-root_from_signature-count c = let z = sizes (goal.at.slice_bounds-root_from_signature-count c).After-path_start-path in omega (arith, z.sig, z.path)
+slice_bounds-root_from_signature-count c =
+    let z = sizes (goal.at.slice_bounds-root_from_signature-count c).After-path_start-path in omega (arith, z.sig, z.path)
 
 pub slice_bounds-root_from_signature-start : goal.slice_bounds-root_from_signature-start
 slice_bounds-root_from_signature-start c =
@@ -61,12 +64,14 @@ slice_bounds-root_from_signature-start-2 c =
 
 pub root_from_signature-requires : goal.root_from_signature-requires
 root_from_signature-requires c =
-    let S = suite_of c.prepare-seed.result in (
+    let at = goal.at.root_from_signature-requires c in
+    let S = suite_of c.prepare-seed.result in
+    let w = width at.After-prepare-seed in
+    let z = sizes at.After-path_start-path in (
       c.prepare-seed.ensures.0,
       c.requires.0,
-      values_length S _ _ _ _ c.args.signature.now (width (goal.at.root_from_signature-requires c).After-prepare-seed) (sizes (goal.at.root_from_signature-requires c).After-path_start-path),
-      path_length S _ _ _ _
-          c.args.signature.now (width (goal.at.root_from_signature-requires c).After-prepare-seed) (sizes (goal.at.root_from_signature-requires c).After-path_start-path),
+      values_length S _ _ _ _ c.args.signature.now w z,
+      path_length S _ _ _ _ c.args.signature.now w z,
     )
 
 pub returns : goal.returns

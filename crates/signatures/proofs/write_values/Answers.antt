@@ -1,4 +1,3 @@
--- The loop writes the values in their order.
 use native.Mathlib.Omega.{arith}
 use lib.ListN.{get_or, take, length-take, length-drop}
 use Prim.Native.Nat.{◌≤◌}
@@ -21,8 +20,11 @@ walk_into-requires c =
     let d = c.digits_of-d in
     let k : get_or d.result c.loop-c.c 0 ≤ 15 =
     digit_most S c.args.m d.result (digits_at S c.args.m d.result n d.ensures) c.loop-c.c
-    (omega (arith, n, c.loop-c-test.true)) in
-    (c.requires.0, simp (length-take, length-drop) (omega (arith, n, c.loop-c-test.true, c.loop-c.invariant.0.2, c.requires.4)), omega (arith, k, c.wide.ensures.0))
+    (omega (arith, n, c.loop-c-test.true)) in (
+      c.requires.0,
+      simp (length-take, length-drop) (omega (arith, n, c.loop-c-test.true, c.loop-c.invariant.0.2, c.requires.4)),
+      omega (arith, k, c.wide.ensures.0),
+    )
 
 pub loop-c-preserved : goal.loop-c-preserved
 loop-c-preserved c =

@@ -9,7 +9,10 @@ use Rattle.onetime.specs.Secrets.{value_of}
 use Rattle.signatures.proofs.write_values.Given as goal
 
 abbrev pub invariant-loop-c : goal.invariant-loop-c
-invariant-loop-c l = Written 36 32 (λ k. chain (suite_of l.s) (seed_of l.s) (set_chain_address l.a k) (value_of l.x k) 0 (get_or l.d k 0)) l.initial.out l.out l.c × (l.c ≤ 67)
+invariant-loop-c l =
+    Written 36 32 (λ k. chain (suite_of l.s) (seed_of l.s) (set_chain_address l.a k) (value_of l.x k) 0 (get_or l.d k 0))
+    l.initial.out l.out l.c
+    × (l.c ≤ 67)
 
 abbrev pub decreases-loop-c : goal.decreases-loop-c
 decreases-loop-c l = 67 - l.c

@@ -1,4 +1,4 @@
--- After each round, what is left leads on; when one value is left, the L-tree is done.
+-- When one value is left, the L-tree is done.
 use native.Mathlib.Omega.{arith}
 use lib.Seq.{length-take-le}
 use lib.ListN.{length, take}

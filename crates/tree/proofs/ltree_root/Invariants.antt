@@ -1,4 +1,4 @@
--- After each round, what is left leads on; when one value is left, the L-tree is done.
+-- After each round, what is left leads on.
 use lib.ListN.{length, take}
 use Prim.Native.Nat.{◌≤◌, ◌+◌}
 use mathlib.Core.Path.{◌≡◌}

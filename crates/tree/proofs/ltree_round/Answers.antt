@@ -1,4 +1,3 @@
--- The loop joins pairs in place; a last odd value moves up.
 use native.Mathlib.Omega.{arith}
 use lib.ListN.{length, get_or, take}
 use Prim.Native.Nat.{◌-◌, ◌/◌, ◌*◌, ◌+◌}

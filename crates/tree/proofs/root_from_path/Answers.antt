@@ -1,4 +1,3 @@
--- After k turns of the loop, k nodes of the path are used.
 use native.Mathlib.Nat.{div-one, le_refl}
 use native.Mathlib.Numerals.{add-one}
 use native.Mathlib.Omega.{arith}

@@ -8,7 +8,10 @@ use Rattle.tree.proofs.root_from_path.Given as goal
 
 abbrev pub invariant-loop-k : goal.invariant-loop-k
 invariant-loop-k l =
-    (held l.s l.v ≡ root_from_path (suite_of l.s) (seed_of l.s) l.a l.k l.index (held l.s l.initial.v) (parts (suite_of l.s).n l.height 0 l.path)) × (l.k ≤ l.height) × (l.position ≡ l.index / 2 ^ l.k)
+    let S = suite_of l.s in
+    (held l.s l.v ≡ root_from_path S (seed_of l.s) l.a l.k l.index (held l.s l.initial.v) (parts S.n l.height 0 l.path))
+    × (l.k ≤ l.height)
+    × (l.position ≡ l.index / 2 ^ l.k)
 
 abbrev pub decreases-loop-k : goal.decreases-loop-k
 decreases-loop-k l = l.height - l.k

@@ -1,4 +1,3 @@
--- The loop writes the path's nodes in their order.
 use native.Mathlib.Nat.{div-one, zero-add, le_refl}
 use native.Mathlib.Numerals.{add-one}
 use native.Mathlib.Omega.{arith}

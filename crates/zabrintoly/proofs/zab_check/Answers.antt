@@ -1,6 +1,5 @@
 -- The outcome of what checking answers.
 use mathlib.Core.Path.{ap}
-use borrow.Author.Rules.{rules}
 use Rattle.operations.specs.declared.Checked.{Checked}
 use Rattle.zabrintoly.proofs.zab_check.Goals as goal
 
