@@ -9,4 +9,5 @@ pub mod Replacing
 pub mod Joining
 pub mod Written
 pub mod Numbers
+pub mod Methods
 pub mod Fronts

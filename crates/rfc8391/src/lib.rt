@@ -46,14 +46,12 @@ impl Address {
         ensures { result ≡ set_type self x }
     {
         Self {
-            layer: self.layer,
-            treehigh: self.treehigh,
-            treelow: self.treelow,
             kind: x,
             w4: 0,
             w5: 0,
             w6: 0,
             w7: 0,
+            ..self
         }
     }
 
@@ -129,7 +127,7 @@ impl Address {
     pub fn encode(self) -> [u8; 32]
         ensures { result ≡ address_bytes self }
     {
-        lists::eight_words(
+        lists::eight_words([
             self.layer,
             self.treehigh,
             self.treelow,
@@ -138,7 +136,7 @@ impl Address {
             self.w5,
             self.w6,
             self.w7,
-        )
+        ])
     }
 }
 
@@ -182,16 +180,13 @@ pub fn key_type(number: u32) -> KeyType
     }
 }
 
-pub fn xored(x: [u8; 32], y: [u8; 32]) -> [u8; 32]
+pub fn xored(mut x: [u8; 32], y: [u8; 32]) -> [u8; 32]
     ensures { result ≡ xor 32 x y }
 {
-    let mut out = [0u8; 32];
-    let mut i = 0;
-    while i < 32 {
-        out[i] = x[i] ^ y[i];
-        i += 1;
+    for i in 0..32 {
+        x[i] ^= y[i];
     }
-    out
+    x
 }
 
 // A number in 32 bytes.
@@ -199,10 +194,7 @@ pub fn to_bytes(x: u32) -> [u8; 32]
     ensures { result ≡ to_byte x 32 }
 {
     let mut out = [0u8; 32];
-    out[28] = (x / 0x100_0000 % 256) as u8;
-    out[29] = (x / 0x1_0000 % 256) as u8;
-    out[30] = (x / 0x100 % 256) as u8;
-    out[31] = (x / 1 % 256) as u8;
+    out[28..].copy_from_slice(&x.to_be_bytes());
     out
 }
 
@@ -211,13 +203,8 @@ pub fn value_of(part: &[u8]) -> [u8; 32]
     requires { length part.now ≤ 32 }
     ensures { take (length part.now) result ≡ part.now }
 {
-    let n = part.len();
     let mut out = [0u8; 32];
-    let mut i = 0;
-    while i < n {
-        out[i] = part[i];
-        i += 1;
-    }
+    out[..part.len()].copy_from_slice(part);
     out
 }
 
@@ -227,9 +214,5 @@ pub fn write_value(out: &mut [u8], value: [u8; 32])
     ensures { out.new ≡ take (length out.old) value }
 {
     let n = out.len();
-    let mut i = 0;
-    while i < n {
-        out[i] = value[i];
-        i += 1;
-    }
+    out.copy_from_slice(&value[..n]);
 }

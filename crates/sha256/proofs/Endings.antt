@@ -1,8 +1,9 @@
 -- The end of a padded message, from its last whole block on, as the code writes it.
-use Rattle.std.proofs.Common.{◌≡◌, ℕ, suc, ◌+◌, ◌-◌, ◌*◌, ◌/◌, ◌%◌, ◌^◌, ◌<◌, ◌≤◌, List, ◌∷◌, ◌++◌, length, take, drop, set, replicate, sym, ap, ◌∙◌, append_assoc, zero-add, arith, length-append, length-drop, take-append-drop, length-take-le, take_all}
-use native.Mathlib.Nat.{mul-div-mul_left}
+use Rattle.std.proofs.Common.{◌≡◌, ℕ, suc, ◌+◌, ◌-◌, ◌*◌, ◌/◌, ◌%◌, ◌^◌, ◌<◌, ◌≤◌, List, ◌∷◌, ◌++◌, length, take, drop, set, replicate, sym, ap, ◌∙◌, append_assoc, arith, length-append, length-drop, take-append-drop, length-take-le, take_all}
+use borrow.Rule.Slice.PartMut.{put_mid}
+use Rattle.std.proofs.lemmas.Slice.{take-put_mid}
 use lib.ListN.{length-replicate}
-use lib.Seq.{take-append-add, take-length, set-append_seam, paste, take-paste}
+use lib.Seq.{take-append-add, set-append_seam}
 use Rattle.lists.specs.Bytes.{to_byte}
 use Rattle.lists.proofs.Repeats.{take-replicate, drop-replicate}
 use Rattle.lists.proofs.Numbers.{length-to_byte, to_byte-mod}
@@ -11,29 +12,27 @@ use Rattle.sha256.specs.Midstate.{padded_rest, finished}
 use Rattle.sha256.specs.declared.State.{State}
 use Rattle.sha256.proofs.Blocks.{hashed_front, hashed_splits}
 
--- what is left of a message, pasted into w zeros, with the byte 0x80 after it
-rest_pasted : (w : ℕ) (d : List ℕ) → length d < w
-    → set (paste (replicate w 0) 0 d (length d)) (length d) 0x80 ≡ d ++ (0x80 ∷ replicate (w - 1 - length d) 0)
-rest_pasted w d h =
+-- what is left of a message, laid over w zeros, with the byte 0x80 after it
+rest_laid : (w : ℕ) (d : List ℕ) → length d < w
+    → set (d ++ drop (length d) (replicate w 0)) (length d) 0x80 ≡ d ++ (0x80 ∷ replicate (w - 1 - length d) 0)
+rest_laid w d h =
     let e : w - length d ≡ suc (w - 1 - length d) = omega arith in
-    let p : paste (replicate w 0) 0 d (length d) ≡ d ++ (0 ∷ replicate (w - 1 - length d) 0) =
-    rw (zero-add, take-length, drop-replicate, e) in
-    rw (p, set-append_seam)
+    rw (drop-replicate, e, set-append_seam)
 
--- the same with bytes b pasted at e: the first e + length b bytes
-pub ending_pasted : (w : ℕ) (d b : List ℕ) (e : ℕ) → length d < e → e + length b ≤ w
-    → take (e + length b) (paste (set (paste (replicate w 0) 0 d (length d)) (length d) 0x80) e b (length b))
+-- the same with bytes b laid over k places from e on: the first e + length b bytes
+pub ending_laid : (w : ℕ) (d b : List ℕ) (e k n : ℕ) → n ≡ e + length b → length d < e → e < w
+    → take n (put_mid e k (set (d ++ drop (length d) (replicate w 0)) (length d) 0x80) b)
     ≡ d ++ (0x80 ∷ (replicate (e - length d - 1) 0 ++ b))
-ending_pasted w d b e h k =
+ending_laid w d b e k n en h lt =
     let j : ℕ = e - length d - 1 in
     let z : ℕ = w - 1 - length d in
     let q : List ℕ = d ++ (0x80 ∷ replicate z 0) in
-    let n : e ≡ length d + suc j = omega arith in
+    let s : e ≡ length d + suc j = omega arith in
     let r : e ≤ length q = simp (length-append, length-replicate) (omega arith) in
     let f : take (length d + suc j) q ≡ d ++ (0x80 ∷ replicate j 0) =
     rw (take-append-add d (0x80 ∷ replicate z 0) (suc j), take-replicate {A = ℕ} j z 0 (omega arith)) in
-    let t : take e q ≡ d ++ (0x80 ∷ replicate j 0) = rw (← n) at f in
-    rw (rest_pasted w d (omega arith), take-paste q e b (length b) r (omega arith), take-length, t) (append_assoc d (0x80 ∷ replicate j 0) b)
+    let t : take e q ≡ d ++ (0x80 ∷ replicate j 0) = rw (← s) at f in
+    rw (rest_laid w d (omega arith), take-put_mid e k q b n en r, t) (append_assoc d (0x80 ∷ replicate j 0) b)
 
 -- a padding's length
 length-padding : (n : ℕ) → length (padding n) ≡ (119 - n % 64) % 64 + 9
@@ -61,10 +60,6 @@ bits_mod : (n : ℕ) → to_byte (8 * (n % 2 ^ 64)) 8 ≡ to_byte (8 * n) 8
 bits_mod n =
     let e : 8 * (n % 2 ^ 64) % 2 ^ 64 ≡ 8 * n % 2 ^ 64 = omega arith in
     sym (to_byte-mod (8 * (n % 2 ^ 64)) 8) ∙ ap (λ (x : ℕ). to_byte x 8) e ∙ to_byte-mod (8 * n) 8
-
--- a byte of the length in bits is a byte of the length in eighths of its power
-pub byte_of_bits : (n a : ℕ) → n / a % 256 ≡ 8 * n / (8 * a) % 256
-byte_of_bits n a = ap (λ (x : ℕ). x % 256) (sym (mul-div-mul_left n a (omega arith)))
 
 -- the hash from the code's last j blocks, the front of p: the rest of m, the bit 1, zeros, and behind `size` bytes the length b in bits
 pub finished_by : (s v : State) (k : ℕ) (m p b : List ℕ) (n size j : ℕ) → v ≡ hashed (length m / 64) s m

@@ -5,13 +5,10 @@
 #![tactic(auto)]
 
 ghost use Rattle.std.specs.Prelude.{◌≡◌, ◌+◌, ◌-◌, ◌*◌, ◌/◌, ◌%◌, ◌^◌, ◌<◌, ◌≤◌, ◌∷◌, ◌++◌, length, take, replicate, slice_index};
-ghost use Rattle.std.proofs.Math.Seq.{paste};
 ghost use Rattle.lists.specs.Lists.{turns};
 ghost use Rattle.lists.specs.Bytes.{to_byte};
 ghost use Rattle.sha256.specs.Sha256.{plus, Ch, Maj, Σ₀, Σ₁, σ₀, σ₁, padding, block, H₀, schedule, round, rounds, added, compressed, hashed, digest, sha256};
 ghost use Rattle.sha256.specs.Midstate.{finished};
-
-use std::num::{wrapping_add_u32, wrapping_add_usize};
 
 // FIPS 180-4, 4.2.2.
 const K: [u32; 64] = [
@@ -94,13 +91,6 @@ pub struct State {
     pub h: u32,
 }
 
-// The contract is written out, and not by its name plus, so that the check proves this by itself.
-fn add(x: u32, y: u32) -> u32
-    ensures { result ≡ (x + y) % 2 ^ 32 }
-{
-    wrapping_add_u32(x, y)
-}
-
 fn choose(x: u32, y: u32, z: u32) -> u32
     ensures { result ≡ Ch x y z }
 {
@@ -116,25 +106,25 @@ fn majority(x: u32, y: u32, z: u32) -> u32
 fn big_sigma0(x: u32) -> u32
     ensures { result ≡ Σ₀ x }
 {
-    ((x >> 2) | (x << 30)) ^ ((x >> 13) | (x << 19)) ^ ((x >> 22) | (x << 10))
+    x.rotate_right(2) ^ x.rotate_right(13) ^ x.rotate_right(22)
 }
 
 fn big_sigma1(x: u32) -> u32
     ensures { result ≡ Σ₁ x }
 {
-    ((x >> 6) | (x << 26)) ^ ((x >> 11) | (x << 21)) ^ ((x >> 25) | (x << 7))
+    x.rotate_right(6) ^ x.rotate_right(11) ^ x.rotate_right(25)
 }
 
 fn small_sigma0(x: u32) -> u32
     ensures { result ≡ σ₀ x }
 {
-    ((x >> 7) | (x << 25)) ^ ((x >> 18) | (x << 14)) ^ (x >> 3)
+    x.rotate_right(7) ^ x.rotate_right(18) ^ (x >> 3)
 }
 
 fn small_sigma1(x: u32) -> u32
     ensures { result ≡ σ₁ x }
 {
-    ((x >> 17) | (x << 15)) ^ ((x >> 19) | (x << 13)) ^ (x >> 10)
+    x.rotate_right(17) ^ x.rotate_right(19) ^ (x >> 10)
 }
 
 fn block_at(m: &[u8], i: usize) -> [u32; 16]
@@ -142,23 +132,8 @@ fn block_at(m: &[u8], i: usize) -> [u32; 16]
     ensures { result ≡ block i m.now }
 {
     let mut w = [0u32; 16];
-    let mut j = 0;
-    while j < 16 {
+    for j in 0..16 {
         w[j] = lists::big_endian(m, 64 * i + 4 * j);
-        j += 1;
-    }
-    w
-}
-
-// A block's 16 words, with room for the 48 that follow.
-fn with_room(b: [u32; 16]) -> [u32; 64]
-    ensures { (take 16 result ≡ b) × (length result ≡ 64) }
-{
-    let mut w = [0u32; 64];
-    let mut i = 0;
-    while i < 16 {
-        w[i] = b[i];
-        i += 1;
     }
     w
 }
@@ -166,17 +141,20 @@ fn with_room(b: [u32; 16]) -> [u32; 64]
 fn next_word(p: u32, q: u32, r: u32, s: u32) -> u32
     ensures { result ≡ plus (plus (plus (σ₁ p) q) (σ₀ r)) s }
 {
-    add(add(add(small_sigma1(p), q), small_sigma0(r)), s)
+    small_sigma1(p)
+        .wrapping_add(q)
+        .wrapping_add(small_sigma0(r))
+        .wrapping_add(s)
 }
 
+// A block's 16 words, and the 48 that follow.
 fn message_schedule(b: [u32; 16]) -> [u32; 64]
     ensures { result ≡ schedule 48 b }
 {
-    let mut w = with_room(b);
-    let mut t = 16;
-    while t < 64 {
+    let mut w = [0u32; 64];
+    w[..16].copy_from_slice(&b);
+    for t in 16..64 {
         w[t] = next_word(w[t - 2], w[t - 7], w[t - 15], w[t - 16]);
-        t += 1;
     }
     w
 }
@@ -184,17 +162,19 @@ fn message_schedule(b: [u32; 16]) -> [u32; 64]
 fn one_round(s: State, k: u32, w: u32) -> State
     ensures { result ≡ round s k w }
 {
-    let t1 = add(
-        add(add(add(s.h, big_sigma1(s.e)), choose(s.e, s.f, s.g)), k),
-        w,
-    );
-    let t2 = add(big_sigma0(s.a), majority(s.a, s.b, s.c));
+    let t1 = s
+        .h
+        .wrapping_add(big_sigma1(s.e))
+        .wrapping_add(choose(s.e, s.f, s.g))
+        .wrapping_add(k)
+        .wrapping_add(w);
+    let t2 = big_sigma0(s.a).wrapping_add(majority(s.a, s.b, s.c));
     State {
-        a: add(t1, t2),
+        a: t1.wrapping_add(t2),
         b: s.a,
         c: s.b,
         d: s.c,
-        e: add(s.d, t1),
+        e: s.d.wrapping_add(t1),
         f: s.e,
         g: s.f,
         h: s.g,
@@ -218,10 +198,8 @@ fn all_rounds(s: State, w: [u32; 64]) -> State
     // A const that is indexed in a loop would be copied to the stack at each turn.
     let k = K;
     let mut v = s;
-    let mut t = 0;
-    while t < 64 {
-        v = four_rounds(v, &k, &w, t);
-        t += 4;
+    for i in 0..16 {
+        v = four_rounds(v, &k, &w, 4 * i);
     }
     v
 }
@@ -230,14 +208,14 @@ fn sum(s: State, t: State) -> State
     ensures { result ≡ added s t }
 {
     State {
-        a: add(s.a, t.a),
-        b: add(s.b, t.b),
-        c: add(s.c, t.c),
-        d: add(s.d, t.d),
-        e: add(s.e, t.e),
-        f: add(s.f, t.f),
-        g: add(s.g, t.g),
-        h: add(s.h, t.h),
+        a: s.a.wrapping_add(t.a),
+        b: s.b.wrapping_add(t.b),
+        c: s.c.wrapping_add(t.c),
+        d: s.d.wrapping_add(t.d),
+        e: s.e.wrapping_add(t.e),
+        f: s.f.wrapping_add(t.f),
+        g: s.g.wrapping_add(t.g),
+        h: s.h.wrapping_add(t.h),
     }
 }
 
@@ -267,12 +245,9 @@ pub fn start() -> State
 pub fn absorb(s: State, m: &[u8]) -> State
     ensures { result ≡ hashed (length m.now / 64) s m.now }
 {
-    let n = m.len() / 64;
     let mut v = s;
-    let mut i = 0;
-    while i < n {
+    for i in 0..m.len() / 64 {
         v = compress(v, block_at(m, i));
-        i += 1;
     }
     v
 }
@@ -281,30 +256,7 @@ pub fn absorb(s: State, m: &[u8]) -> State
 fn bit_length(n: usize) -> [u8; 8]
     ensures { result ≡ to_byte (8 * n) 8 }
 {
-    [
-        (n / 0x20_0000_0000_0000 % 256) as u8,
-        (n / 0x2000_0000_0000 % 256) as u8,
-        (n / 0x20_0000_0000 % 256) as u8,
-        (n / 0x2000_0000 % 256) as u8,
-        (n / 0x20_0000 % 256) as u8,
-        (n / 0x2000 % 256) as u8,
-        (n / 0x20 % 256) as u8,
-        (n % 0x20 * 8) as u8,
-    ]
-}
-
-// p with the bytes of m from place at on.
-fn paste_in(p: [u8; 128], at: usize, m: &[u8]) -> [u8; 128]
-    requires { at + length m.now ≤ 128 }
-    ensures { result ≡ paste p at m.now (length m.now) }
-{
-    let mut q = p;
-    let mut i = 0;
-    while i < m.len() {
-        q[at + i] = m[i];
-        i += 1;
-    }
-    q
+    n.wrapping_mul(8).to_be_bytes()
 }
 
 // The last block or two of a padded message, of which the bytes m are left; the bit length stands behind `size` bytes.
@@ -312,30 +264,31 @@ fn ending(m: &[u8], size: usize, bits: [u8; 8]) -> [u8; 128]
     requires { (length m.now < size) × (size ≤ 120) }
     ensures { take (size + 8) result ≡ m.now ++ (0x80 ∷ (replicate (size - length m.now - 1) 0 ++ bits)) }
 {
-    let mut p = paste_in([0u8; 128], 0, m);
+    let mut p = [0u8; 128];
+    p[..m.len()].copy_from_slice(m);
     p[m.len()] = 0x80;
-    paste_in(p, size, &bits)
+    p[size..size + 8].copy_from_slice(&bits);
+    p
 }
 
 fn digest_of(s: State) -> [u8; 32]
     ensures { result ≡ digest s }
 {
-    lists::eight_words(s.a, s.b, s.c, s.d, s.e, s.f, s.g, s.h)
+    lists::eight_words([s.a, s.b, s.c, s.d, s.e, s.f, s.g, s.h])
 }
 
 // The hash of a message whose first `before` blocks led to the hash value s, and of which m is left.
 pub fn finish(s: State, before: u32, m: &[u8]) -> [u8; 32]
     ensures { result ≡ finished s before m.now }
 {
-    let n = m.len();
-    let from = n / 64 * 64;
     let v = absorb(s, m);
-    let bits = bit_length(wrapping_add_usize(64 * (before as usize), n));
-    if n - from < 56 {
-        let p = ending(&m[from..], 56, bits);
+    let rest = &m[m.len() / 64 * 64..];
+    let bits = bit_length((64 * (before as usize)).wrapping_add(m.len()));
+    if rest.len() < 56 {
+        let p = ending(rest, 56, bits);
         digest_of(absorb(v, &p[..64]))
     } else {
-        let p = ending(&m[from..], 120, bits);
+        let p = ending(rest, 120, bits);
         digest_of(absorb(v, &p))
     }
 }
@@ -345,12 +298,8 @@ pub fn joined(a: [u8; 32], b: [u8; 32]) -> [u8; 64]
     ensures { result ≡ a ++ b }
 {
     let mut m = [0u8; 64];
-    let mut i = 0;
-    while i < 32 {
-        m[i] = a[i];
-        m[32 + i] = b[i];
-        i += 1;
-    }
+    m[..32].copy_from_slice(&a);
+    m[32..].copy_from_slice(&b);
     m
 }
 
@@ -358,11 +307,10 @@ pub fn joined(a: [u8; 32], b: [u8; 32]) -> [u8; 64]
 fn half_padding(before: u32) -> [u8; 32]
     ensures { result ≡ padding (64 * before + 32) }
 {
-    let bits = bit_length(64 * (before as usize) + 32);
-    [
-        0x80, 0, 0, 0, 0, 0, 0, 0, 0, 0, 0, 0, 0, 0, 0, 0, 0, 0, 0, 0, 0, 0, 0, 0, bits[0],
-        bits[1], bits[2], bits[3], bits[4], bits[5], bits[6], bits[7],
-    ]
+    let mut p = [0u8; 32];
+    p[0] = 0x80;
+    p[24..].copy_from_slice(&bit_length(64 * (before as usize) + 32));
+    p
 }
 
 // What finish gives where half a block is left, as chain steps and addresses end: with its padding it is one block.
