@@ -195,11 +195,9 @@ fn four_rounds(v: State, k: &[u32; 64], w: &[u32; 64], t: usize) -> State
 fn all_rounds(s: State, w: [u32; 64]) -> State
     ensures { result ≡ rounds 64 s w }
 {
-    // A const that is indexed in a loop would be copied to the stack at each turn.
-    let k = K;
     let mut v = s;
     for i in 0..16 {
-        v = four_rounds(v, &k, &w, 4 * i);
+        v = four_rounds(v, &K, &w, 4 * i);
     }
     v
 }
