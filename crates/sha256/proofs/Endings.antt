@@ -1,11 +1,11 @@
 -- The end of a padded message, from its last whole block on, as the code writes it.
 use Rattle.std.proofs.Common.{◌≡◌, ℕ, suc, ◌+◌, ◌-◌, ◌*◌, ◌/◌, ◌%◌, ◌^◌, ◌<◌, ◌≤◌, List, ◌∷◌, ◌++◌, length, take, drop, set, replicate, sym, ap, ◌∙◌, append_assoc, arith, length-append, length-drop, take-append-drop, length-take-le, take_all}
 use borrow.Rule.Slice.PartMut.{put_mid}
+use Rattle.std.proofs.lemmas.List.{take-replicate, drop-replicate}
 use Rattle.std.proofs.lemmas.Slice.{take-put_mid}
 use lib.ListN.{length-replicate}
 use lib.Seq.{take-append-add, set-append_seam}
 use Rattle.lists.specs.Bytes.{to_byte}
-use Rattle.lists.proofs.Repeats.{take-replicate, drop-replicate}
 use Rattle.lists.proofs.Numbers.{length-to_byte, to_byte-mod}
 use Rattle.sha256.specs.Sha256.{padding, hashed, digest}
 use Rattle.sha256.specs.Midstate.{padded_rest, finished}
@@ -17,7 +17,7 @@ rest_laid : (w : ℕ) (d : List ℕ) → length d < w
     → set (d ++ drop (length d) (replicate w 0)) (length d) 0x80 ≡ d ++ (0x80 ∷ replicate (w - 1 - length d) 0)
 rest_laid w d h =
     let e : w - length d ≡ suc (w - 1 - length d) = omega arith in
-    rw (drop-replicate, e, set-append_seam)
+    rw (drop-replicate {X = ℕ}, e, set-append_seam)
 
 -- the same with bytes b laid over k places from e on: the first e + length b bytes
 pub ending_laid : (w : ℕ) (d b : List ℕ) (e k n : ℕ) → n ≡ e + length b → length d < e → e < w
@@ -30,7 +30,7 @@ ending_laid w d b e k n en h lt =
     let s : e ≡ length d + suc j = omega arith in
     let r : e ≤ length q = simp (length-append, length-replicate) (omega arith) in
     let f : take (length d + suc j) q ≡ d ++ (0x80 ∷ replicate j 0) =
-    rw (take-append-add d (0x80 ∷ replicate z 0) (suc j), take-replicate {A = ℕ} j z 0 (omega arith)) in
+    rw (take-append-add d (0x80 ∷ replicate z 0) (suc j), take-replicate {X = ℕ} j z 0 (omega arith)) in
     let t : take e q ≡ d ++ (0x80 ∷ replicate j 0) = rw (← s) at f in
     rw (rest_laid w d (omega arith), take-put_mid e k q b n en r, t) (append_assoc d (0x80 ∷ replicate j 0) b)
 

@@ -91,6 +91,7 @@ pub struct State {
     pub h: u32,
 }
 
+// FIPS 180-4, 4.1.2: six functions by the document's names, which one function with three constants for four of them would hide.
 fn choose(x: u32, y: u32, z: u32) -> u32
     ensures { result ≡ Ch x y z }
 {
@@ -181,7 +182,7 @@ fn one_round(s: State, k: u32, w: u32) -> State
     }
 }
 
-// Written out, so that the variables change their roles and few words have to be moved.
+// Four a turn, so that the variables change their roles: a loop of single rounds moves all eight words each time and is a sixth slower.
 fn four_rounds(v: State, k: &[u32; 64], w: &[u32; 64], t: usize) -> State
     requires { t + 4 ≤ 64 }
     ensures { result ≡ turns 4 (λ i x. round x (slice_index k.now (t + i)) (slice_index w.now (t + i))) v }

@@ -20,9 +20,3 @@ loop-t-preserved c =
       simp length-set l.invariant.0,
       schedule_more l.w _ l.t c.next_word.result (omega arith) (omega arith) l.invariant.1 c.next_word.ensures,
     )
-
-pub returns : goal.returns
-returns c =
-    let l = c.loop-t in
-    let e : l.t ≡ 64 = omega arith in
-    sym (take_all 64 l.w (omega arith)) ∙ (rw e at l.invariant.1)
