@@ -1,5 +1,5 @@
 -- The end of a padded message, from its last whole block on, as the code writes it.
-use Rattle.std.proofs.Common.{◌≡◌, ℕ, suc, ◌+◌, ◌-◌, ◌*◌, ◌/◌, ◌%◌, ◌^◌, ◌<◌, ◌≤◌, List, ◌∷◌, ◌++◌, length, take, drop, set, replicate, sym, ap, ◌∙◌, append_assoc, arith, length-append, length-drop, take-append-drop, length-take-le, take_all}
+use Rattle.std.proofs.Common.{◌≡◌, ℕ, suc, ◌+◌, ◌-◌, ◌*◌, ◌/◌, ◌%◌, ◌^◌, ◌<◌, ◌≤◌, List, ◌∷◌, ◌++◌, length, take, drop, set, replicate, sym, ap, ◌∙◌, append_assoc, arith, length-append, length-drop, take-append-drop, length-take-le}
 use borrow.Rule.Slice.PartMut.{put_mid}
 use Rattle.std.proofs.lemmas.List.{take-replicate, drop-replicate}
 use Rattle.std.proofs.lemmas.Slice.{take-put_mid}
@@ -65,17 +65,16 @@ bits_mod n =
 pub finished_by : (s v : State) (k : ℕ) (m p b : List ℕ) (n size j : ℕ) → v ≡ hashed (length m / 64) s m
     → n ≡ (64 * k + length m) % 2 ^ 64 → b ≡ to_byte (8 * n) 8 → size + 8 ≡ 64 * j
     → length m % 64 < size → size < length m % 64 + 65
-    → (d : List ℕ) → d ≡ take (length m - length m / 64 * 64) (drop (length m / 64 * 64) m)
+    → (d : List ℕ) → d ≡ drop (length m / 64 * 64) m
     → take (size + 8) p ≡ d ++ (0x80 ∷ (replicate (size - length d - 1) 0 ++ b))
     → digest (hashed j v (take (size + 8) p)) ≡ finished s k m
 unfolding padding
 finished_by s v k m p b n size j ev en eb ej lo hi d ed ep =
     let f : ℕ = length m / 64 * 64 in
-    let w : d ≡ drop f m = ed ∙ take_all (length m - f) (drop f m) (rw length-drop (omega arith)) in
-    let l : length d ≡ length m % 64 = ap length w ∙ (length-drop f m ∙ omega arith) in
+    let l : length d ≡ length m % 64 = ap length ed ∙ (length-drop f m ∙ omega arith) in
     let z : size - length d - 1 ≡ (119 - (64 * k + length m) % 64) % 64 = omega arith in
     let eb : b ≡ to_byte (8 * (64 * k + length m)) 8 = eb ∙ ap (λ (x : ℕ). to_byte (8 * x) 8) en ∙ bits_mod (64 * k + length m) in
-    rw (ep, z, eb, w, ev) (sym (finished_ending s k m j (omega arith) (omega arith)))
+    rw (ep, z, eb, ed, ev) (sym (finished_ending s k m j (omega arith) (omega arith)))
 
 -- the hash where half a block is left: the padded rest is one block
 pub finished_half : (s : State) (k : ℕ) (m : List ℕ) → length m ≡ 32 → finished s k m ≡ digest (hashed 1 s (m ++ padding (64 * k + 32)))

@@ -128,13 +128,12 @@ fn small_sigma1(x: u32) -> u32
     x.rotate_right(17) ^ x.rotate_right(19) ^ (x >> 10)
 }
 
-fn block_at(m: &[u8], i: usize) -> [u32; 16]
-    requires { 64 * i + 64 ≤ length m.now }
-    ensures { result ≡ block i m.now }
+fn words_of(bytes: &[u8; 64]) -> [u32; 16]
+    ensures { result ≡ block 0 bytes.now }
 {
     let mut w = [0u32; 16];
     for j in 0..16 {
-        w[j] = lists::big_endian(m, 64 * i + 4 * j);
+        w[j] = lists::big_endian(bytes, 4 * j);
     }
     w
 }
@@ -244,9 +243,10 @@ pub fn start() -> State
 pub fn absorb(s: State, m: &[u8]) -> State
     ensures { result ≡ hashed (length m.now / 64) s m.now }
 {
+    let (blocks, _) = m.as_chunks::<64>();
     let mut v = s;
-    for i in 0..m.len() / 64 {
-        v = compress(v, block_at(m, i));
+    for bytes in blocks {
+        v = compress(v, words_of(bytes));
     }
     v
 }
@@ -281,7 +281,7 @@ pub fn finish(s: State, before: u32, m: &[u8]) -> [u8; 32]
     ensures { result ≡ finished s before m.now }
 {
     let v = absorb(s, m);
-    let rest = &m[m.len() / 64 * 64..];
+    let (_, rest) = m.as_chunks::<64>();
     let bits = bit_length((64 * (before as usize)).wrapping_add(m.len()));
     if rest.len() < 56 {
         let p = ending(rest, 56, bits);

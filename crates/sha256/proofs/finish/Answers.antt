@@ -13,7 +13,7 @@ returns-then-rest-lt56 c =
     let x : c.absorb.result ≡ hashed 1 v.result (take 64 p) = rw (length-take-le 64 p (omega arith)) at c.absorb.ensures in
     c.digest_of.ensures ∙ ap digest x
     ∙ finished_by _ v.result _ m p _ _ 56 1 v.ensures refl c.bit_length-bits.ensures refl
-    (omega arith) (omega arith) _ refl c.ending-p.ensures
+    (omega arith) (omega arith) _ c.as_chunks.ensures.back c.ending-p.ensures
 
 pub returns-else-rest-lt56 : goal.returns-else-rest-lt56
 returns-else-rest-lt56 c =
@@ -26,4 +26,4 @@ returns-else-rest-lt56 c =
     let x : last.result ≡ hashed 2 v.result (take 128 p) = rw (take_all 128 p (omega arith)) (rw n at last.ensures) in
     c.digest_of-else-rest-lt56.ensures ∙ ap digest x
     ∙ finished_by _ v.result _ m p _ _ 120 2 v.ensures refl c.bit_length-bits.ensures refl
-    (omega arith) (omega arith) _ refl ending.ensures
+    (omega arith) (omega arith) _ c.as_chunks.ensures.back ending.ensures
