@@ -41,7 +41,6 @@ unfolding suite sha2 value_length
 suite_length Sha2 = refl
 
 pub seed_fits : (s : Seed) → (suite_of s).n ≤ 32
-unfolding suite_of
 seed_fits s = suite_fits s.hash
 
 all : (x : List ℕ) → length x ≡ 32 → take 32 x ≡ x

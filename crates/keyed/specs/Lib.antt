@@ -3,4 +3,5 @@ pub mod Keyed
 pub mod Values
 pub mod Sha2
 pub mod Suites
+pub mod Held
 pub mod Seeds

@@ -3,12 +3,11 @@ use Rattle.std.specs.Prelude.{◌≡◌, List, ℕ}
 use Rattle.lists.specs.Bytes.{to_byte}
 use Rattle.rfc8391.specs.Address.{set_chain_address}
 use Rattle.rfc8391.specs.House.{secret_value}
-use Rattle.keyed.specs.Seeds.{suite_of, held, seed_of, Prepared}
+use Rattle.keyed.specs.Seeds.{suite_of, held, seed_of}
 use Rattle.onetime.specs.declared.Secrets.{Secrets}
 
 -- the leaf's seed is that of the secret seed and the leaf of the address
 pub record Ready (x : Secrets) : Type 0 where
-  pub prepared : Prepared x.leaf
   pub leaf_seed : seed_of x.leaf ≡ (suite_of x.leaf).PRF (held x.leaf x.secret) (to_byte x.at.w4 32)
 
 -- the secret value of chain c

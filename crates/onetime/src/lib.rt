@@ -6,7 +6,7 @@
 
 ghost use Rattle.std.specs.Prelude.{◌≡◌, ◌++◌, ◌+◌, ◌-◌, ◌*◌, ◌/◌, ◌%◌, ◌^◌, ◌<◌, ◌≤◌, length, get_or, take};
 ghost use Rattle.rfc8391.specs.Wots.{base_w, checksum, digits, len, step, chain, wots_pk, wots_pk_from_sig};
-ghost use Rattle.keyed.specs.Seeds.{suite_of, held, held_all, values_in, seed_of, Prepared};
+ghost use Rattle.keyed.specs.Seeds.{suite_of, held, held_all, values_in, seed_of};
 ghost use Rattle.onetime.specs.Secrets.{Ready, value_of};
 
 use keyed::Seed;
@@ -63,13 +63,12 @@ pub fn digits_of(m: [u8; 32], k: usize) -> [u8; 67]
 
 // One step of a chain, at position j. The selector is set for each key and mask, so that none is left over.
 fn chain_step(s: Seed, a: Address, j: u32, x: [u8; 32]) -> [u8; 32]
-    requires { Prepared s }
     ensures { held s result ≡ step (suite_of s) (seed_of s) a j (held s x) }
 {
     let at = a.set_hash_address(j);
-    let key = keyed::prf(s, at.set_key_and_mask(0).encode());
-    let mask = keyed::prf(s, at.set_key_and_mask(1).encode());
-    keyed::f(s, key, rfc8391::xored(x, mask))
+    let key = s.prf(at.set_key_and_mask(0).encode());
+    let mask = s.prf(at.set_key_and_mask(1).encode());
+    keyed::f(s.hash, key, rfc8391::xored(x, mask))
 }
 
 // What a walk along a chain gives.
@@ -79,7 +78,7 @@ pub struct Walked {
 }
 
 pub fn walk(s: Seed, a: Address, x: [u8; 32], from: u32, steps: u32) -> Walked
-    requires { Prepared s × (from + steps ≤ 15) }
+    requires { from + steps ≤ 15 }
     ensures { held s result.value ≡ chain (suite_of s) (seed_of s) a (held s x) from steps }
 {
     let mut v = x;
@@ -94,7 +93,7 @@ pub fn walk(s: Seed, a: Address, x: [u8; 32], from: u32, steps: u32) -> Walked
 
 // A walk from a secret value that writes what it reaches into a lent part of a value's length.
 pub fn walk_into(out: &mut [u8], s: Seed, a: Address, x: [u8; 32], steps: u32) -> Walked
-    requires { Prepared s × (length out.old ≡ (suite_of s).n) × (steps ≤ 15) }
+    requires { (length out.old ≡ (suite_of s).n) × (steps ≤ 15) }
     ensures { (held s result.value ≡ chain (suite_of s) (seed_of s) a (held s x) 0 steps) × (out.new ≡ held s result.value) }
 {
     let w = walk(s, a, x, 0, steps);
@@ -105,7 +104,7 @@ pub fn walk_into(out: &mut [u8], s: Seed, a: Address, x: [u8; 32], steps: u32) -
 
 // Walks on from a signature's value to the chain's end. The digit says how far the signer came.
 fn walk_on(part: &[u8], s: Seed, a: Address, digit: u32) -> Walked
-    requires { Prepared s × (length part.now ≡ (suite_of s).n) × (digit ≤ 15) }
+    requires { (length part.now ≡ (suite_of s).n) × (digit ≤ 15) }
     ensures { held s result.value ≡ chain (suite_of s) (seed_of s) a part.now digit (15 - digit) }
 {
     walk(s, a, rfc8391::value_of(part), digit, 15 - digit)
@@ -113,10 +112,10 @@ fn walk_on(part: &[u8], s: Seed, a: Address, digit: u32) -> Walked
 
 // The chain ends to which the chain values of a signature lead, at the one-time address a.
 pub fn ends_from(values: &[u8], s: Seed, a: Address, m: [u8; 32]) -> [[u8; 32]; 67]
-    requires { Prepared s × (length values.now ≡ (suite_of s).n * len (suite_of s)) }
+    requires { length values.now ≡ (suite_of s).n * len (suite_of s) }
     ensures { held_all s result ≡ wots_pk_from_sig (suite_of s) (seed_of s) a (held s m) (values_in s (len (suite_of s)) values.now) }
 {
-    let n = keyed::value_length_of(s);
+    let n = s.value_length();
     let d = digits_of(m, 2 * n);
     let mut ends = [[0u8; 32]; 67];
     let mut c = 0;
@@ -147,8 +146,8 @@ pub struct Secrets {
 pub fn secrets_of(secret: [u8; 32], s: Seed, at: Address) -> Secrets
     ensures { Ready result × (result.secret ≡ secret) × (result.public ≡ s.bytes) × (result.at ≡ at) × (suite_of result.leaf ≡ suite_of s) }
 {
-    let leaf_seed = keyed::prf(keyed::prepare_like(s, secret), rfc8391::to_bytes(at.w4));
-    let leaf = keyed::prepare_like(s, leaf_seed);
+    let leaf_seed = s.like(secret).prf(rfc8391::to_bytes(at.w4));
+    let leaf = s.like(leaf_seed);
     let public = s.bytes;
     Secrets {
         secret,
@@ -162,16 +161,15 @@ pub fn secret_value(x: Secrets, c: u32) -> [u8; 32]
     requires { Ready x }
     ensures { held x.leaf result ≡ value_of x c }
 {
-    let leaf = x.leaf;
-    keyed::prf(leaf, rfc8391::to_bytes(c))
+    x.leaf.prf(rfc8391::to_bytes(c))
 }
 
 // The chain ends of a leaf's secret values.
 pub fn ends_of(x: Secrets, s: Seed) -> [[u8; 32]; 67]
-    requires { Prepared s × Ready x × (suite_of x.leaf ≡ suite_of s) }
+    requires { Ready x × (suite_of x.leaf ≡ suite_of s) }
     ensures { held_all s result ≡ wots_pk (suite_of s) (seed_of s) x.at (value_of x) }
 {
-    let n = keyed::value_length_of(s);
+    let n = s.value_length();
     let a = x.at;
     let mut ends = [[0u8; 32]; 67];
     let mut c = 0;

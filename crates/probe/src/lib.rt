@@ -11,6 +11,7 @@ ghost use Rattle.rfc8391.specs.House.{secrets};
 ghost use Rattle.rfc8391.specs.Xmss.{leaf_of};
 ghost use Rattle.rfc8391.specs.Formats.{single_tree};
 
+use keyed::Seed;
 use rfc8391::{Address, Hash};
 
 #[unsafe(no_mangle)]
@@ -29,7 +30,7 @@ pub extern "C" fn zab_probe_leaf(secret: &[u8; 32], public: &[u8; 32], i: u32, o
 {
     *out = tree::leaf(
         *secret,
-        keyed::prepare(Hash::Sha2, *public),
+        Seed::prepare(Hash::Sha2, *public),
         Address::single_tree(),
         i,
     );

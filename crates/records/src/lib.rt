@@ -10,6 +10,7 @@ ghost use Rattle.keyed.specs.Sha2.{sha2};
 ghost use Rattle.records.specs.Records.{record_bytes, record_with};
 ghost use Rattle.records.specs.Keys.{made_record};
 
+use keyed::Seed;
 use rfc8391::{Address, Hash};
 
 // The root of the key that seed material gives.
@@ -21,7 +22,7 @@ pub fn made_root(material: &[u8]) -> [u8; 32]
     let public = rfc8391::value_of(&material[64..96]);
     tree::node_at(
         secret,
-        keyed::prepare(Hash::Sha2, public),
+        Seed::prepare(Hash::Sha2, public),
         Address::single_tree(),
         10,
         0,

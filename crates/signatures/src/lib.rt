@@ -10,7 +10,7 @@ ghost use Rattle.lists.specs.Bytes.{to_byte};
 ghost use Rattle.rfc8391.specs.Wots.{wots_sign};
 ghost use Rattle.rfc8391.specs.Formats.{value_length, key_length, path_start, signature_length, signature_bytes};
 ghost use Rattle.keyed.specs.Sha2.{sha2};
-ghost use Rattle.keyed.specs.Seeds.{suite_of, held, seed_of, Prepared};
+ghost use Rattle.keyed.specs.Seeds.{suite_of, held, seed_of};
 ghost use Rattle.onetime.specs.Secrets.{Ready, value_of};
 ghost use Rattle.records.specs.Records.{record_from};
 ghost use Rattle.records.specs.Keys.{signed_by};
@@ -32,7 +32,7 @@ fn write_head(out: &mut [u8], index: u32, r: [u8; 32])
 
 // Every chain value of the value m in its own 32 bytes, by a walk that gets this part of the out buffer alone.
 fn write_values(out: &mut [u8], x: Secrets, s: Seed, m: [u8; 32])
-    requires { Prepared s × Ready x × (suite_of x.leaf ≡ suite_of s) × ((suite_of s).n ≡ 32) × (2180 ≤ length out.old) }
+    requires { Ready x × (suite_of x.leaf ≡ suite_of s) × ((suite_of s).n ≡ 32) × (2180 ≤ length out.old) }
     ensures { out.new
         ≡ take 36 out.old
         ++ (flat (wots_sign (suite_of s) (seed_of s) x.at (held s m) (value_of x)) ++ drop 2180 out.old) }
@@ -55,7 +55,7 @@ fn write_values(out: &mut [u8], x: Secrets, s: Seed, m: [u8; 32])
 }
 
 fn write_path(out: &mut [u8], secret: [u8; 32], s: Seed, index: u32)
-    requires { Prepared s × ((suite_of s).n ≡ 32) × (index < 1024) × (length out.old ≡ 2500) }
+    requires { ((suite_of s).n ≡ 32) × (index < 1024) × (length out.old ≡ 2500) }
     ensures { out.new ≡ take 2180 out.old ++ path_nodes (held s secret) s index }
 {
     tree::write_path(
@@ -73,12 +73,12 @@ fn randomiser(prfkey: &[u8], index: u32) -> [u8; 32]
     requires { length prfkey.now ≡ 32 }
     ensures { result ≡ sha2.PRF prfkey.now (to_byte index 32) }
 {
-    let key = keyed::prepare(Hash::Sha2, rfc8391::value_of(prfkey));
-    keyed::prf(key, rfc8391::to_bytes(index))
+    let key = Seed::prepare(Hash::Sha2, rfc8391::value_of(prfkey));
+    key.prf(rfc8391::to_bytes(index))
 }
 
 fn write_parts(out: &mut [u8], secret: [u8; 32], s: Seed, index: u32, r: [u8; 32], m: [u8; 32])
-    requires { Prepared s × ((suite_of s).n ≡ 32) × (index < 1024) × (length out.old ≡ 2500) }
+    requires { ((suite_of s).n ≡ 32) × (index < 1024) × (length out.old ≡ 2500) }
     ensures { out.new
         ≡ to_byte index 4 ++ (r ++ (chain_values (held s secret) s index (held s m) ++ path_nodes (held s secret) s index)) }
 {
@@ -93,10 +93,10 @@ pub fn write_signature(secret: &[u8], index: u32, message: &[u8], out: &mut [u8]
     requires { (length secret.now ≡ 132) × (index < 1024) × (length out.old ≡ 2500) }
     ensures { out.new ≡ signature_bytes (signed_by sha2 (record_from 32 secret.now) index message.now) }
 {
-    let s = keyed::prepare(Hash::Sha2, rfc8391::value_of(&secret[68..100]));
+    let s = Seed::prepare(Hash::Sha2, rfc8391::value_of(&secret[68..100]));
     let r = randomiser(&secret[36..68], index);
     let root = rfc8391::value_of(&secret[100..132]);
-    let m = keyed::message_digest(s, r, root, index, message);
+    let m = keyed::message_digest(s.hash, r, root, index, message);
     write_parts(out, rfc8391::value_of(&secret[4..36]), s, index, r, m);
 }
 
@@ -123,11 +123,11 @@ pub fn recomputed_root(
 {
     let n = keyed::value_length(hash);
     let path = path_start(n);
-    let seed = keyed::prepare(hash, rfc8391::value_of(&key[4 + n..4 + n + n]));
+    let seed = Seed::prepare(hash, rfc8391::value_of(&key[4 + n..4 + n + n]));
     let root = rfc8391::value_of(&key[4..4 + n]);
     let r = rfc8391::value_of(&signature[4..4 + n]);
     let index = lists::big_endian(signature, 0);
-    let digest = keyed::message_digest(seed, r, root, index, message);
+    let digest = keyed::message_digest(seed.hash, r, root, index, message);
     tree::root_from_signature(
         seed,
         Address::single_tree(),

@@ -8,7 +8,7 @@ ghost use Rattle.std.specs.Prelude.{◌≡◌, ◌+◌, ◌*◌, ◌/◌, ◌%�
 ghost use Rattle.lists.specs.Lists.{flat};
 ghost use Rattle.rfc8391.specs.Wots.{len};
 ghost use Rattle.rfc8391.specs.Xmss.{tree_at, sibling, rand_hash, ltree_round, ltree, node, auth_path, climb, root_from_path, root_from_sig};
-ghost use Rattle.keyed.specs.Seeds.{suite_of, held, held_first, held_all, values_in, seed_of, Prepared};
+ghost use Rattle.keyed.specs.Seeds.{suite_of, held, held_first, held_all, values_in, seed_of};
 ghost use Rattle.tree.specs.Keys.{leaf_at};
 
 use keyed::Seed;
@@ -16,14 +16,13 @@ use rfc8391::Address;
 
 // Two values joined. The selector is set for each key and mask, so that none is left over.
 fn join(s: Seed, a: Address, left: [u8; 32], right: [u8; 32]) -> [u8; 32]
-    requires { Prepared s }
     ensures { held s result ≡ rand_hash (suite_of s) (seed_of s) a (held s left) (held s right) }
 {
-    let key = keyed::prf(s, a.set_key_and_mask(0).encode());
-    let left_mask = keyed::prf(s, a.set_key_and_mask(1).encode());
-    let right_mask = keyed::prf(s, a.set_key_and_mask(2).encode());
+    let key = s.prf(a.set_key_and_mask(0).encode());
+    let left_mask = s.prf(a.set_key_and_mask(1).encode());
+    let right_mask = s.prf(a.set_key_and_mask(2).encode());
     keyed::h(
-        s,
+        s.hash,
         key,
         rfc8391::xored(left, left_mask),
         rfc8391::xored(right, right_mask),
@@ -32,7 +31,7 @@ fn join(s: Seed, a: Address, left: [u8; 32], right: [u8; 32]) -> [u8; 32]
 
 // One round over the first w values, in place: a pair's join is stored where no later pair reads.
 fn ltree_round(s: Seed, a: Address, height: u32, mut v: [[u8; 32]; 67], w: usize) -> [[u8; 32]; 67]
-    requires { Prepared s × (w ≤ 67) }
+    requires { w ≤ 67 }
     ensures { held_first s ((w + 1) / 2) result ≡ ltree_round (suite_of s) (seed_of s) a height (held_first s w v) }
 {
     let half = w / 2;
@@ -58,11 +57,10 @@ fn ltree_round(s: Seed, a: Address, height: u32, mut v: [[u8; 32]; 67], w: usize
 
 // The L-tree over the chain ends: rounds until one value is left.
 fn ltree_root(s: Seed, a: Address, ends: [[u8; 32]; 67]) -> [u8; 32]
-    requires { Prepared s }
     ensures { held s result ≡ ltree (suite_of s) (seed_of s) a (held_all s ends) }
 {
     let mut v = ends;
-    let mut w = 2 * keyed::value_length_of(s) + 3;
+    let mut w = 2 * s.value_length() + 3;
     let mut height: u32 = 0;
     while 1 < w {
         let next = ltree_round(s, a, height, v, w);
@@ -75,7 +73,6 @@ fn ltree_root(s: Seed, a: Address, ends: [[u8; 32]; 67]) -> [u8; 32]
 
 // The leaf i of the key with this secret seed.
 pub fn leaf(secret: [u8; 32], s: Seed, a: Address, i: u32) -> [u8; 32]
-    requires { Prepared s }
     ensures { held s result ≡ leaf_at (held s secret) s a i }
 {
     let x = onetime::secrets_of(secret, s, a.ots_at(i));
@@ -92,7 +89,6 @@ fn join_at(
     left: [u8; 32],
     right: [u8; 32],
 ) -> [u8; 32]
-    requires { Prepared s }
     ensures { held s result ≡ rand_hash (suite_of s) (seed_of s) (tree_at a height above) (held s left) (held s right) }
 {
     join(s, a.tree_at(height, above), left, right)
@@ -100,7 +96,7 @@ fn join_at(
 
 // The node of a height at a position, from its two nodes of the height below.
 pub fn node_at(secret: [u8; 32], s: Seed, a: Address, height: u32, position: u32) -> [u8; 32]
-    requires { Prepared s × ((position + 1) * 2 ^ height ≤ 1048576) }
+    requires { (position + 1) * 2 ^ height ≤ 1048576 }
     ensures { held s result ≡ node (suite_of s) (seed_of s) a (leaf_at (held s secret) s a) height position }
 {
     if height == 0 {
@@ -127,10 +123,10 @@ fn beside(position: u32) -> u32
 
 // The path of a leaf into a lent part: at each height the sibling of the leaf's ancestor, from the leaf up.
 pub fn write_path(out: &mut [u8], secret: [u8; 32], s: Seed, a: Address, height: u32, index: u32)
-    requires { Prepared s × (height ≤ 20) × (index < 2 ^ height) × (length out.old ≡ (suite_of s).n * height) }
+    requires { (height ≤ 20) × (index < 2 ^ height) × (length out.old ≡ (suite_of s).n * height) }
     ensures { out.new ≡ flat (auth_path (suite_of s) (seed_of s) a (leaf_at (held s secret) s a) height index) }
 {
-    let n = keyed::value_length_of(s);
+    let n = s.value_length();
     let mut position = index;
     let mut k = 0;
     while k < height {
@@ -144,7 +140,6 @@ pub fn write_path(out: &mut [u8], secret: [u8; 32], s: Seed, a: Address, height:
 
 // From a node of height k at a position to the one above, by its sibling: an even position is a left one.
 fn climb_by(s: Seed, a: Address, k: u32, position: u32, v: [u8; 32], other: [u8; 32]) -> [u8; 32]
-    requires { Prepared s }
     ensures { held s result ≡ climb (suite_of s) (seed_of s) a k position (held s v) (held s other) }
 {
     if position % 2 == 0 {
@@ -163,10 +158,10 @@ fn root_from_path(
     start: [u8; 32],
     path: &[u8],
 ) -> [u8; 32]
-    requires { Prepared s × (height ≤ 20) × (length path.now ≡ (suite_of s).n * height) }
+    requires { (height ≤ 20) × (length path.now ≡ (suite_of s).n * height) }
     ensures { held s result ≡ root_from_path (suite_of s) (seed_of s) a height index (held s start) (values_in s height path.now) }
 {
-    let n = keyed::value_length_of(s);
+    let n = s.value_length();
     let mut v = start;
     let mut position = index;
     let mut k = 0;
@@ -191,7 +186,7 @@ pub fn root_from_signature(
     path: &[u8],
     m: [u8; 32],
 ) -> [u8; 32]
-    requires { Prepared s × (height ≤ 20)
+    requires { (height ≤ 20)
         × (length values.now ≡ (suite_of s).n * len (suite_of s)) × (length path.now ≡ (suite_of s).n * height) }
     ensures { held s result
         ≡ root_from_sig (suite_of s) (seed_of s) a height index

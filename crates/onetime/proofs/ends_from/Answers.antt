@@ -18,23 +18,22 @@ loop-c-init c = (filling_start 67 _ (fronts _ (replicate 67 (replicate 32 0))) (
 
 -- value c of the values
 within : (c : In-loop-c)
-    → c.value_length_of-n.result * c.loop-c.c + c.value_length_of-n.result
+    → c.value_length-n.result * c.loop-c.c + c.value_length-n.result
     ≤ length c.args.values.now
 within c =
     let S = suite_of c.args.s in
-    value_within S.n _ (len S) c.loop-c.c _ c.value_length_of-n.ensures.0 (omega arith)
-    (rw c.requires.1 (le_refl (S.n * len S)))
+    value_within S.n _ (len S) c.loop-c.c _ c.value_length-n.ensures.0 (omega arith)
+    (rw c.requires (le_refl (S.n * len S)))
 
 -- the digits of m
 digits-known : (c : After-digits_of-d)
     → take (len (suite_of c.args.s)) c.digits_of-d.result ≡ digits
     (len₁ (suite_of c.args.s)) c.args.m
-digits-known c = rw c.value_length_of-n.ensures.0 at c.digits_of-d.ensures
+digits-known c = rw c.value_length-n.ensures.0 at c.digits_of-d.ensures
 
 pub walk_on-w-requires : goal.walk_on-w-requires
 walk_on-w-requires c = (
-  c.requires.0,
-  simp (length-take, length-drop) (omega (arith, within (goal.at.walk_on-w-requires c).In-loop-c, c.value_length_of-n.ensures.0)),
+  simp (length-take, length-drop) (omega (arith, within (goal.at.walk_on-w-requires c).In-loop-c, c.value_length-n.ensures.0)),
   omega (
     arith,
     digit_most (suite_of c.args.s) _ _ (digits-known (goal.at.walk_on-w-requires c).After-digits_of-d) c.loop-c.c
@@ -48,7 +47,7 @@ loop-c-preserved c =
     let a = c.args in (
       fronts_more 67 _ (suite_of a.s).n _ _ _
           (end_by (suite_of a.s) (seed_of a.s) a.a c.digits_of-d.result a.values.now c.loop-c.c _ _ _ _ _
-          c.value_length_of-n.ensures.0 c.set_chain_address.ensures refl
+          c.value_length-n.ensures.0 c.set_chain_address.ensures refl
           c.wide.ensures.0 c.walk_on-w.ensures)
           (omega arith) c.loop-c.invariant.0,
       omega arith,

@@ -17,7 +17,7 @@ loop-c-init c = (filling_start 67 _ (fronts _ (replicate 67 (replicate 32 0))) (
 pub loop-c-preserved : goal.loop-c-preserved
 loop-c-preserved c =
     let v : held c.args.s c.secret_value.result ≡ value_of c.args.x c.loop-c.c =
-    ap (λ (T : Suite). take T.n c.secret_value.result) (sym c.requires.2) ∙ c.secret_value.ensures in (
+    ap (λ (T : Suite). take T.n c.secret_value.result) (sym c.requires.1) ∙ c.secret_value.ensures in (
       fronts_more 67 _ (suite_of c.args.s).n _ _ _
           (chain_by _ _ _ _ _ _ 15 15 _ c.set_chain_address.ensures v refl c.walk-w.ensures) (omega arith)
           c.loop-c.invariant.0,

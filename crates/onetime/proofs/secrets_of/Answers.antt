@@ -7,10 +7,10 @@ use Rattle.onetime.proofs.secrets_of.Goals as goal
 
 pub returns : goal.returns
 returns c =
-    let p = c.prepare_like in
-    let q = c.prepare_like-leaf in
+    let p = c.like in
+    let q = c.like-leaf in
     let a = c.args in
     let e : seed_of q.result ≡ (suite_of q.result).PRF (held q.result a.secret) (to_byte a.at.w4 32) =
-    leaf_seed_by a.s p.result q.result a.secret _ _ a.at.w4 p.ensures.1 p.ensures.2
-    c.to_bytes.ensures c.prf-leaf_seed.ensures q.ensures.1 q.ensures.2 in
-    (record { prepared = q.ensures.0; leaf_seed = e }, refl, refl, refl, q.ensures.2)
+    leaf_seed_by a.s p.result q.result a.secret _ _ a.at.w4 p.ensures.0 p.ensures.1
+    c.to_bytes.ensures c.prf-leaf_seed.ensures q.ensures.0 q.ensures.1 in
+    (record { leaf_seed = e }, refl, refl, refl, q.ensures.1)

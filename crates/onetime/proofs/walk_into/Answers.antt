@@ -14,5 +14,5 @@ returns c =
     let w = c.walk-w in (
       w.ensures,
       c.write_value.ensures ∙ ap (λ (k : ℕ). take k w.result.value)
-          c.requires.1,
+          c.requires.0,
     )

@@ -11,5 +11,5 @@ value_of-requires c = omega (arith, seed_fits c.args.s)
 pub returns : goal.returns
 returns c =
     let e : held c.args.s c.value_of.result ≡ c.args.part.now =
-    rw (← c.requires.1) c.value_of.ensures in
+    rw (← c.requires.0) c.value_of.ensures in
     rw e at c.walk.ensures

@@ -7,4 +7,4 @@ use Rattle.probe.proofs.zab_probe_leaf.Goals as goal
 pub returns : goal.returns
 returns c =
     let p = c.prepare.ensures in
-    leaf_named _ _ _ _ _ _ p.1 (p.2 ∙ suite_sha2) c.single_tree.ensures c.leaf.type_inv.1.0.1 c.leaf.ensures
+    leaf_named _ _ _ _ _ _ p.0 (p.1 ∙ suite_sha2) c.single_tree.ensures c.leaf.type_inv.1.0.1 c.leaf.ensures

@@ -24,7 +24,7 @@ sizes c =
 
 -- the seed's suite has values of n bytes
 width : (c : After-prepare-seed) → (suite_of c.prepare-seed.result).n ≡ c.value_length-n.result
-width c = ap (λ (S : Suite). S.n) c.prepare-seed.ensures.2
+width c = ap (λ (S : Suite). S.n) c.prepare-seed.ensures.1
     ∙ suite_length c.args.hash
     ∙ sym c.value_length-n.ensures.0
 
@@ -68,7 +68,6 @@ root_from_signature-requires c =
     let S = suite_of c.prepare-seed.result in
     let w = width at.After-prepare-seed in
     let z = sizes at.After-path_start-path in (
-      c.prepare-seed.ensures.0,
       c.requires.0,
       values_length S _ _ _ _ c.args.signature.now w z,
       path_length S _ _ _ _ c.args.signature.now w z,
@@ -84,7 +83,7 @@ returns c =
     let z = sizes (goal.at.returns c).After-path_start-path in
     let w : v.result ≡ S.n = sym (width (goal.at.returns c).After-prepare-seed) in
     let seed : take S.n c.prepare-seed.result.bytes ≡ take S.n (drop (4 + S.n) key) =
-    ap (take S.n) c.prepare-seed.ensures.1 ∙ seed_at S.n _ key _ w (omega (arith, z.key)) c.value_of.ensures in
+    ap (take S.n) c.prepare-seed.ensures.0 ∙ seed_at S.n _ key _ w (omega (arith, z.key)) c.value_of.ensures in
     let root : take S.n c.value_of-root.result ≡ take S.n (drop 4 key) =
     value_at S.n _ 4 key _ w (omega (arith, z.key))
     c.value_of-root.ensures in
@@ -98,5 +97,5 @@ returns c =
     c.message_digest-digest.ensures c.root_from_signature.ensures in
     ap (λ (n : ℕ). take n c.root_from_signature.result) (sym v.ensures.0 ∙ w)
     ∙ x
-    ∙ ap (λ (T : Suite). root_by T T.n c.args.height key m sig) c.prepare-seed.ensures.2
+    ∙ ap (λ (T : Suite). root_by T T.n c.args.height key m sig) c.prepare-seed.ensures.1
     ∙ ap (λ (n : ℕ). root_by (suite c.args.hash) n c.args.height key m sig) (suite_length c.args.hash)

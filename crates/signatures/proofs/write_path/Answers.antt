@@ -13,4 +13,4 @@ returns c =
     path_is c.args.out.now c.write_path.new.out _
     (c.write_path.ensures
     ∙ ap (λ (a : Address). flat (auth_path (suite_of c.args.s) (seed_of c.args.s) a
-    (leaf_at (held c.args.s c.args.secret) c.args.s a) 10 c.args.index)) c.single_tree.ensures) c.requires.3
+    (leaf_at (held c.args.s c.args.secret) c.args.s a) 10 c.args.index)) c.single_tree.ensures) c.requires.2

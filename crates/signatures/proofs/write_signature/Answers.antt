@@ -10,8 +10,7 @@ use Rattle.signatures.proofs.write_signature.Goals as goal
 
 pub write_parts-requires : goal.write_parts-requires
 write_parts-requires c =
-    let p = c.prepare-s.ensures in
-    (p.0, ap (λ (S : Suite). S.n) (p.2 ∙ suite_sha2) ∙ sha2_n, c.requires.1, c.requires.2)
+    (ap (λ (S : Suite). S.n) (c.prepare-s.ensures.1 ∙ suite_sha2) ∙ sha2_n, c.requires.1, c.requires.2)
 
 pub returns : goal.returns
 returns c =
@@ -20,6 +19,6 @@ returns c =
     let sk = value_at 32 32 4 secret _ refl (omega arith) c.value_of-2.ensures in
     let public = value_at 32 32 68 secret _ refl (omega arith) c.value_of.ensures in
     let root = value_at 32 32 100 secret _ refl (omega arith) c.value_of-root.ensures in
-    signed_is secret c.args.message.now c.args.index c.prepare-s.result _ _ _ _ _ (c.prepare-s.ensures.2 ∙ suite_sha2) sk
-    (ap (take 32) c.prepare-s.ensures.1 ∙ public) root r.ensures r.type_inv.1.0.1
+    signed_is secret c.args.message.now c.args.index c.prepare-s.result _ _ _ _ _ (c.prepare-s.ensures.1 ∙ suite_sha2) sk
+    (ap (take 32) c.prepare-s.ensures.0 ∙ public) root r.ensures r.type_inv.1.0.1
     c.message_digest-m.ensures c.write_parts.ensures

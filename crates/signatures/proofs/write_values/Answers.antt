@@ -16,13 +16,12 @@ loop-c-init c = (written_start 36 32 _ _, omega arith)
 pub walk_into-requires : goal.walk_into-requires
 walk_into-requires c =
     let S = suite_of c.args.s in
-    let n : S.n ≡ 32 = c.requires.3 in
+    let n : S.n ≡ 32 = c.requires.2 in
     let d = c.digits_of-d in
     let k : get_or d.result c.loop-c.c 0 ≤ 15 =
     digit_most S c.args.m d.result (digits_at S c.args.m d.result n d.ensures) c.loop-c.c
     (omega (arith, n, c.loop-c-test.true)) in (
-      c.requires.0,
-      simp (length-take, length-drop) (omega (arith, n, c.loop-c-test.true, c.loop-c.invariant.0.2, c.requires.4)),
+      simp (length-take, length-drop) (omega (arith, n, c.loop-c-test.true, c.loop-c.invariant.0.2, c.requires.3)),
       omega (arith, k, c.wide.ensures.0),
     )
 
@@ -30,11 +29,11 @@ pub loop-c-preserved : goal.loop-c-preserved
 loop-c-preserved c =
     let k = c.secret_value in
     let w = c.walk_into in
-    let v : held c.args.s k.result ≡ value_of c.args.x c.loop-c.c = ap (λ (S : Suite). take S.n k.result) (sym c.requires.2) ∙ k.ensures in (
-      written_more 36 32 _ c.args.out.now c.loop-c.out _ _ _ refl (omega (arith, c.loop-c-test.true, c.requires.4))
+    let v : held c.args.s k.result ≡ value_of c.args.x c.loop-c.c = ap (λ (S : Suite). take S.n k.result) (sym c.requires.1) ∙ k.ensures in (
+      written_more 36 32 _ c.args.out.now c.loop-c.out _ _ _ refl (omega (arith, c.loop-c-test.true, c.requires.3))
           (chain_by _ _ _ _ _ _ _ _ _ c.set_chain_address.ensures v
           c.wide.ensures.0 (w.ensures.1 ∙ w.ensures.0))
-          (rw w.auto.out (simp (length-take, length-drop) (omega (arith, c.loop-c-test.true, c.loop-c.invariant.0.2, c.requires.4))))
+          (rw w.auto.out (simp (length-take, length-drop) (omega (arith, c.loop-c-test.true, c.loop-c.invariant.0.2, c.requires.3))))
           c.loop-c.invariant.0,
       omega (arith, c.loop-c-test.true),
     )
@@ -42,4 +41,4 @@ loop-c-preserved c =
 pub returns : goal.returns
 returns c =
     values_written (suite_of c.args.s) (seed_of c.args.s) c.args.x.at c.args.m c.digits_of-d.result
-    (value_of c.args.x) c.args.out.now _ _ c.requires.3 c.digits_of-d.ensures (omega arith) c.loop-c.invariant.0
+    (value_of c.args.x) c.args.out.now _ _ c.requires.2 c.digits_of-d.ensures (omega arith) c.loop-c.invariant.0

@@ -9,13 +9,13 @@ pub node_at-left-requires : goal.node_at-left-requires
 node_at-left-requires t c =
     let a = c.args in
     let e : a.height ≡ suc (a.height - 1) = omega arith in
-    (omega arith, (c.requires.0, within_left a.height (a.height - 1) a.position e c.requires.1))
+    (omega arith, within_left a.height (a.height - 1) a.position e c.requires)
 
 pub node_at-right-requires : goal.node_at-right-requires
 node_at-right-requires t c =
     let a = c.args in
     let e : a.height ≡ suc (a.height - 1) = omega arith in
-    (omega arith, (c.requires.0, within_right a.height (a.height - 1) a.position e c.requires.1))
+    (omega arith, within_right a.height (a.height - 1) a.position e c.requires)
 
 pub returns-then-height-eq0 : goal.returns-then-height-eq0
 returns-then-height-eq0 t c = node_leaf _ _ _ _ _ _ _ c.if-height-eq0.true c.leaf.ensures

@@ -19,14 +19,14 @@ pub loop-w-init : goal.loop-w-init
 unfolding turns
 loop-w-init c = (
   ap (λ (k : ℕ). take (2 * k + 3) (fronts (suite_of c.args.s).n c.args.ends))
-      c.value_length_of.ensures.0,
+      c.value_length.ensures.0,
   omega arith,
   omega arith,
   search rules,
 )
 
 pub ltree_round-next-requires : goal.ltree_round-next-requires
-ltree_round-next-requires c = (c.requires, omega (arith, seed_fits c.args.s))
+ltree_round-next-requires c = omega (arith, seed_fits c.args.s)
 
 pub overflow_add-height : goal.overflow_add-height
 overflow_add-height c = omega (arith, seed_fits c.args.s)

@@ -21,12 +21,12 @@ loop-k-init c = (turns_start _ _, omega arith, sym (div-one _))
 
 -- node k of the path
 within : (c : In-loop-k)
-    → c.value_length_of-n.result * c.loop-k.k + c.value_length_of-n.result
+    → c.value_length-n.result * c.loop-k.k + c.value_length-n.result
     ≤ length c.args.path.now
 within c =
     let S = suite_of c.args.s in
-    value_within S.n _ c.args.height c.loop-k.k _ c.value_length_of-n.ensures.0 (omega arith)
-    (rw c.requires.2 (le_refl (S.n * c.args.height)))
+    value_within S.n _ c.args.height c.loop-k.k _ c.value_length-n.ensures.0 (omega arith)
+    (rw c.requires.1 (le_refl (S.n * c.args.height)))
 
 pub value_of-requires : goal.value_of-requires
 value_of-requires c = simp (length-take, length-drop) (omega arith)
@@ -35,7 +35,7 @@ pub loop-k-preserved : goal.loop-k-preserved
 unfolding root_from_path
 loop-k-preserved c =
     let l = c.loop-k in
-    let w = c.value_length_of-n in
+    let w = c.value_length-n in
     let a = c.args in
     let S = suite_of a.s in
     let path = parts S.n a.height 0 a.path.now in

@@ -16,16 +16,16 @@ use Rattle.tree.proofs.write_path.Goals as goal
 use Rattle.tree.proofs.write_path.Goals.{In-loop-k}
 
 pub loop-k-init : goal.loop-k-init
-loop-k-init c = (written_start 0 c.value_length_of-n.result _ _, omega arith, sym (div-one _))
+loop-k-init c = (written_start 0 c.value_length-n.result _ _, omega arith, sym (div-one _))
 
 -- node k's part of the path
 within : (c : In-loop-k)
-    → c.value_length_of-n.result * c.loop-k.k + c.value_length_of-n.result
+    → c.value_length-n.result * c.loop-k.k + c.value_length-n.result
     ≤ length c.args.out.now
 within c =
     let S = suite_of c.args.s in
-    value_within S.n _ c.args.height c.loop-k.k _ c.value_length_of-n.ensures.0 (omega arith)
-    (rw c.requires.3 (le_refl (S.n * c.args.height)))
+    value_within S.n _ c.args.height c.loop-k.k _ c.value_length-n.ensures.0 (omega arith)
+    (rw c.requires.2 (le_refl (S.n * c.args.height)))
 
 pub beside-requires : goal.beside-requires
 beside-requires c =
@@ -36,11 +36,8 @@ beside-requires c =
 pub node_at-other-requires : goal.node_at-other-requires
 node_at-other-requires c =
     let a = c.args in
-    let l = c.loop-k in (
-      c.requires.0,
-      sibling_within a.height a.index l.k l.position _ (omega arith)
-          (omega arith) (omega arith) l.invariant.2 c.beside.ensures,
-    )
+    let l = c.loop-k in
+    sibling_within a.height a.index l.k l.position _ (omega arith) (omega arith) (omega arith) l.invariant.2 c.beside.ensures
 
 pub write_value-requires : goal.write_value-requires
 write_value-requires c = simp (length-take, length-drop) (omega arith)
@@ -48,7 +45,7 @@ write_value-requires c = simp (length-take, length-drop) (omega arith)
 pub loop-k-preserved : goal.loop-k-preserved
 loop-k-preserved c =
     let a = c.args in
-    let n = c.value_length_of-n in
+    let n = c.value_length-n in
     let w = c.write_value in
     let p : length (take (n.result * c.loop-k.k + n.result - n.result * c.loop-k.k) (drop (n.result * c.loop-k.k) c.loop-k.out)) ≡ n.result =
     simp (length-take, length-drop) (omega (arith, within (goal.at.loop-k-preserved c).In-loop-k, c.loop-k.invariant.0.2)) in
@@ -68,11 +65,11 @@ pub returns : goal.returns
 unfolding auth_path
 returns c =
     let l = c.loop-k in
-    let n = c.value_length_of-n in
+    let n = c.value_length-n in
     let e : l.k ≡ c.args.height = omega arith in
     let z : drop (0 + n.result * c.args.height) c.args.out.now ≡ [] =
     drop_of_length-le c.args.out.now {i = 0 + n.result * c.args.height}
-    (rw (zero-add, n.ensures.0, c.requires.3) (le_refl ((suite_of c.args.s).n * c.args.height))) in
+    (rw (zero-add, n.ensures.0, c.requires.2) (le_refl ((suite_of c.args.s).n * c.args.height))) in
     written_end 0 n.result c.args.height _ c.args.out.now _ _ e l.invariant.0 ∙ rw (z, append-nil)
 
 pub overflow_mul-at : goal.overflow_mul-at
