@@ -72,15 +72,15 @@ impl Seed {
     ghost use Rattle.keyed.specs.Seeds.{suite_of, held, seed_of};
 
     pub fn prepare(hash: Hash, bytes: [u8; 32]) -> Self
-        ensures { (result.bytes ≡ bytes) × (suite_of result ≡ suite hash) }
+        ensures { (result.bytes ≡ bytes) × (result.hash ≡ hash) }
     {
         let mid = sha2::keyed_by(3, bytes);
         Seed { hash, bytes, mid }
     }
 
-    // Another seed of the same suite.
+    // Another seed of the same hash.
     pub fn like(self, bytes: [u8; 32]) -> Self
-        ensures { (result.bytes ≡ bytes) × (suite_of result ≡ suite_of self) }
+        ensures { (result.bytes ≡ bytes) × (result.hash ≡ self.hash) }
     {
         Self::prepare(self.hash, bytes)
     }

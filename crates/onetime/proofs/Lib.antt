@@ -1,3 +1,2 @@
 -- The laws by which `onetime` puts chains together, over any suite.
 pub mod Ends
-pub mod Leaves

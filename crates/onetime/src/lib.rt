@@ -5,9 +5,9 @@
 #![tactic(auto)]
 
 ghost use Rattle.std.specs.Prelude.{◌≡◌, ◌++◌, ◌+◌, ◌-◌, ◌*◌, ◌/◌, ◌%◌, ◌^◌, ◌<◌, ◌≤◌, length, get_or, take};
+ghost use Rattle.lists.specs.Bytes.{to_byte};
 ghost use Rattle.rfc8391.specs.Wots.{base_w, checksum, digits, len, step, chain, wots_pk, wots_pk_from_sig};
 ghost use Rattle.keyed.specs.Seeds.{suite_of, held, held_all, values_in, seed_of};
-ghost use Rattle.onetime.specs.Secrets.{Ready, value_of};
 
 use keyed::Seed;
 use rfc8391::Address;
@@ -25,11 +25,9 @@ fn checksum_of(m: [u8; 32], k: usize) -> u32
     requires { k ≤ 64 }
     ensures { (result ≡ checksum (base_w m k)) × (result ≤ 960) }
 {
-    let mut sum: u32 = 0;
-    let mut i = 0;
-    while i < k {
-        sum += lists::wide(15 - digit_at(&m, i));
-        i += 1;
+    let mut sum = 0;
+    for i in 0..k {
+        sum += u32::from(15 - digit_at(&m, i));
     }
     sum
 }
@@ -53,10 +51,8 @@ pub fn digits_of(m: [u8; 32], k: usize) -> [u8; 67]
     let shifted = checksum_of(m, k) * 16;
     let c = [(shifted / 256 % 256) as u8, (shifted / 1 % 256) as u8];
     let mut out = [0u8; 67];
-    let mut i = 0;
-    while i < k + 3 {
+    for i in 0..k + 3 {
         out[i] = digit_of(m, k, c, i);
-        i += 1;
     }
     out
 }
@@ -81,14 +77,12 @@ pub fn walk(s: Seed, a: Address, x: [u8; 32], from: u32, steps: u32) -> Walked
     requires { from + steps ≤ 15 }
     ensures { held s result.value ≡ chain (suite_of s) (seed_of s) a (held s x) from steps }
 {
-    let mut v = x;
-    let mut k = 0;
-    while k < steps {
-        let next = chain_step(s, a, from + k, v);
-        v = next;
-        k += 1;
+    let mut value = x;
+    for k in 0..steps {
+        let next = chain_step(s, a, from + k, value);
+        value = next;
     }
-    Walked { value: v }
+    Walked { value }
 }
 
 // A walk from a secret value that writes what it reaches into a lent part of a value's length.
@@ -96,10 +90,9 @@ pub fn walk_into(out: &mut [u8], s: Seed, a: Address, x: [u8; 32], steps: u32) -
     requires { (length out.old ≡ (suite_of s).n) × (steps ≤ 15) }
     ensures { (held s result.value ≡ chain (suite_of s) (seed_of s) a (held s x) 0 steps) × (out.new ≡ held s result.value) }
 {
-    let w = walk(s, a, x, 0, steps);
-    let v = w.value;
-    rfc8391::write_value(out, v);
-    w
+    let walked = walk(s, a, x, 0, steps);
+    rfc8391::write_value(out, walked.value);
+    walked
 }
 
 // Walks on from a signature's value to the chain's end. The digit says how far the signer came.
@@ -118,67 +111,68 @@ pub fn ends_from(values: &[u8], s: Seed, a: Address, m: [u8; 32]) -> [[u8; 32]; 
     let n = s.value_length();
     let d = digits_of(m, 2 * n);
     let mut ends = [[0u8; 32]; 67];
-    let mut c = 0;
-    while c < 2 * n + 3 {
+    for c in 0..2 * n + 3 {
         let at = n * c;
-        let w = walk_on(
+        let Walked { value } = walk_on(
             &values[at..at + n],
             s,
             a.set_chain_address(c as u32),
-            lists::wide(d[c]),
+            u32::from(d[c]),
         );
-        let v = w.value;
-        ends[c] = v;
-        c += 1;
+        ends[c] = value;
     }
     ends
 }
 
-// All that the secret values of one leaf need: the seeds, the leaf's one-time address, and the leaf's own seed, prepared.
+// All that the secret values of one leaf need: the secret and the public seed, the leaf's one-time address, and the leaf's own seed, prepared.
 #[derive(Clone, Copy)]
 pub struct Secrets {
     pub secret: [u8; 32],
-    pub public: [u8; 32],
+    pub seed: Seed,
     pub at: Address,
     pub leaf: Seed,
+    pub ghost same_hash: { leaf.hash ≡ seed.hash },
+    pub ghost leaf_seed: { seed_of leaf ≡ (suite_of seed).PRF (held seed secret) (to_byte at.w4 32) },
 }
 
-pub fn secrets_of(secret: [u8; 32], s: Seed, at: Address) -> Secrets
-    ensures { Ready result × (result.secret ≡ secret) × (result.public ≡ s.bytes) × (result.at ≡ at) × (suite_of result.leaf ≡ suite_of s) }
-{
-    let leaf_seed = s.like(secret).prf(rfc8391::to_bytes(at.w4));
-    let leaf = s.like(leaf_seed);
-    let public = s.bytes;
-    Secrets {
-        secret,
-        public,
-        at,
-        leaf,
+impl Secrets {
+    ghost use Rattle.onetime.specs.Secrets.{value_of};
+
+    pub fn prepare(secret: [u8; 32], seed: Seed, at: Address) -> Self
+        ensures { (result.secret ≡ secret) × (result.seed ≡ seed) × (result.at ≡ at) }
+    {
+        let leaf = seed.like(seed.like(secret).prf(rfc8391::to_bytes(at.w4)));
+        Self {
+            secret,
+            seed,
+            at,
+            leaf,
+        }
     }
-}
 
-pub fn secret_value(x: Secrets, c: u32) -> [u8; 32]
-    requires { Ready x }
-    ensures { held x.leaf result ≡ value_of x c }
-{
-    x.leaf.prf(rfc8391::to_bytes(c))
-}
-
-// The chain ends of a leaf's secret values.
-pub fn ends_of(x: Secrets, s: Seed) -> [[u8; 32]; 67]
-    requires { Ready x × (suite_of x.leaf ≡ suite_of s) }
-    ensures { held_all s result ≡ wots_pk (suite_of s) (seed_of s) x.at (value_of x) }
-{
-    let n = s.value_length();
-    let a = x.at;
-    let mut ends = [[0u8; 32]; 67];
-    let mut c = 0;
-    while c < 2 * n + 3 {
-        let k = c as u32;
-        let w = walk(s, a.set_chain_address(k), secret_value(x, k), 0, 15);
-        let v = w.value;
-        ends[c] = v;
-        c += 1;
+    // The secret value of chain c.
+    pub fn value(self, c: u32) -> [u8; 32]
+        ensures { held self.seed result ≡ value_of self c }
+    {
+        self.leaf.prf(rfc8391::to_bytes(c))
     }
-    ends
+
+    // The chain ends of the secret values.
+    pub fn ends(self) -> [[u8; 32]; 67]
+        ensures { held_all self.seed result ≡ wots_pk (suite_of self.seed) (seed_of self.seed) self.at (value_of self) }
+    {
+        let mut ends = [[0u8; 32]; 67];
+        for c in 0..2 * self.seed.value_length() + 3 {
+            let k = c as u32;
+            let Walked { value } = walk(
+                self.seed,
+                self.at.set_chain_address(k),
+                self.value(k),
+                0,
+                15,
+            );
+            ends[c] = value;
+        }
+        ends
+    }
 }

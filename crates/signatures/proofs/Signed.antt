@@ -79,15 +79,15 @@ values_written S seed a m d sk o₀ o c n32 ed ec inv =
 
 -- chain values of the secrets that are ready for leaf i
 pub values_are : (out y sk : List ℕ) (s : Seed) (m : List ℕ) (i : ℕ) (a b : Address) (x : Secrets) → a ≡ single_tree → b ≡ ots_at a i
-    → x.secret ≡ sk → x.public ≡ s.bytes → x.at ≡ b → suite_of x.leaf ≡ suite_of s
-    → y ≡ take 36 out ++ (flat (wots_sign (suite_of s) (seed_of s) x.at m (value_of x)) ++ drop 2180 out)
-    → y ≡ take 36 out ++ (chain_values (held s sk) s i m ++ drop 2180 out)
-values_are out y sk s m i a b x ea eb es ep et eS e =
+    → x.secret ≡ sk → x.seed ≡ s → x.at ≡ b
+    → y ≡ take 36 out ++ (flat (wots_sign (suite_of x.seed) (seed_of x.seed) x.at (held x.seed m) (value_of x)) ++ drop 2180 out)
+    → y ≡ take 36 out ++ (chain_values (held s sk) s i (held s m) ++ drop 2180 out)
+values_are out y sk s m i a b x ea eb es ep et e =
     let at : x.at ≡ ots_at single_tree i = et ∙ eb ∙ ap (λ (c : Address). ots_at c i) ea in
     e
     ∙ ap (λ (v : List (List ℕ)). take 36 out ++ (flat v ++ drop 2180 out))
-    (ap (λ (c : Address). wots_sign (suite_of s) (seed_of s) c m (value_of x)) at
-    ∙ sign_ext (suite_of s) (seed_of s) (ots_at single_tree i) m _ _ (value_is (suite_of s) sk s.bytes single_tree i x es ep at eS))
+    (ap₂ (λ (t : Seed) (c : Address). wots_sign (suite_of t) (seed_of t) c (held t m) (value_of x)) ep at
+    ∙ sign_ext (suite_of s) (seed_of s) (ots_at single_tree i) (held s m) _ _ (value_is sk s single_tree i x es ep at))
 
 -- r, from PRF of the message key in the suite of its seed
 pub randomiser_is : (s : Seed) (key v t r : List ℕ) (i : ℕ) → suite_of s ≡ sha2 → s.bytes ≡ v → take 32 v ≡ key → t ≡ to_byte i 32

@@ -11,7 +11,7 @@ ghost use Rattle.rfc8391.specs.Wots.{wots_sign};
 ghost use Rattle.rfc8391.specs.Formats.{value_length, key_length, path_start, signature_length, signature_bytes};
 ghost use Rattle.keyed.specs.Sha2.{sha2};
 ghost use Rattle.keyed.specs.Seeds.{suite_of, held, seed_of};
-ghost use Rattle.onetime.specs.Secrets.{Ready, value_of};
+ghost use Rattle.onetime.specs.Secrets.{value_of};
 ghost use Rattle.records.specs.Records.{record_from};
 ghost use Rattle.records.specs.Keys.{signed_by};
 ghost use Rattle.signatures.specs.Parts.{chain_values, path_nodes};
@@ -31,11 +31,11 @@ fn write_head(out: &mut [u8], index: u32, r: [u8; 32])
 }
 
 // Every chain value of the value m in its own 32 bytes, by a walk that gets this part of the out buffer alone.
-fn write_values(out: &mut [u8], x: Secrets, s: Seed, m: [u8; 32])
-    requires { Ready x × (suite_of x.leaf ≡ suite_of s) × ((suite_of s).n ≡ 32) × (2180 ≤ length out.old) }
+fn write_values(out: &mut [u8], x: Secrets, m: [u8; 32])
+    requires { ((suite_of x.seed).n ≡ 32) × (2180 ≤ length out.old) }
     ensures { out.new
         ≡ take 36 out.old
-        ++ (flat (wots_sign (suite_of s) (seed_of s) x.at (held s m) (value_of x)) ++ drop 2180 out.old) }
+        ++ (flat (wots_sign (suite_of x.seed) (seed_of x.seed) x.at (held x.seed m) (value_of x)) ++ drop 2180 out.old) }
 {
     let d = onetime::digits_of(m, 64);
     let a = x.at;
@@ -45,9 +45,9 @@ fn write_values(out: &mut [u8], x: Secrets, s: Seed, m: [u8; 32])
         let at = 36 + 32 * c;
         onetime::walk_into(
             &mut out[at..at + 32],
-            s,
+            x.seed,
             a.set_chain_address(k),
-            onetime::secret_value(x, k),
+            x.value(k),
             lists::wide(d[c]),
         );
         c += 1;
@@ -84,7 +84,7 @@ fn write_parts(out: &mut [u8], secret: [u8; 32], s: Seed, index: u32, r: [u8; 32
 {
     write_head(out, index, r);
     let at = Address::single_tree().ots_at(index);
-    write_values(out, onetime::secrets_of(secret, s, at), s, m);
+    write_values(out, Secrets::prepare(secret, s, at), m);
     write_path(out, secret, s, index);
 }
 

@@ -14,7 +14,7 @@ use Rattle.rfc8391.specs.House.{secrets}
 use Rattle.rfc8391.specs.declared.Address.{Address}
 use Rattle.rfc8391.proofs.Chains.{pk_ext}
 use Rattle.rfc8391.proofs.Values.{xor_front, value_at}
-use Rattle.keyed.specs.Seeds.{suite_of, held, seed_of}
+use Rattle.keyed.specs.Seeds.{suite_of, held, held_all, seed_of}
 use Rattle.keyed.specs.declared.Seed.{Seed}
 use Rattle.onetime.specs.Secrets.{value_of}
 use Rattle.onetime.specs.declared.Secrets.{Secrets}
@@ -30,20 +30,21 @@ join_by S seed a l r key m₁ m₂ x y out h ek e₁ e₂ ex ey eo =
     rw (eo, ex, ey, xor_front S.n 32 l m₁ h, xor_front S.n 32 r m₂ h, ek, e₁, e₂)
 
 -- the secret values that are ready for leaf i are the key's
-pub value_is : (S : Suite) (sk seed : List ℕ) (a : Address) (i : ℕ) (x : Secrets) → x.secret ≡ sk → x.public ≡ seed → x.at ≡ ots_at a i
-    → suite_of x.leaf ≡ S → (c : ℕ) → value_of x c ≡ secrets S (take S.n sk) (take S.n seed) a i c
+pub value_is : (sk : List ℕ) (s : Seed) (a : Address) (i : ℕ) (x : Secrets) → x.secret ≡ sk → x.seed ≡ s → x.at ≡ ots_at a i
+    → (c : ℕ) → value_of x c ≡ secrets (suite_of s) (held s sk) (seed_of s) a i c
 unfolding value_of secrets
-value_is S sk seed a i x es ep ea eS c = rw (eS, es, ep, ea)
+value_is sk s a i x es ep ea c = rw (es, ep, ea)
 
 -- a leaf, from the chain ends of its secret values
 pub leaf_by : (sk : List ℕ) (s : Seed) (a : Address) (i : ℕ) (x : Secrets) (b : Address) (ends : List (List ℕ)) (r : List ℕ)
-    → x.secret ≡ sk → x.public ≡ s.bytes → x.at ≡ ots_at a i → suite_of x.leaf ≡ suite_of s
-    → ends ≡ wots_pk (suite_of s) (seed_of s) x.at (value_of x) → b ≡ ltree_at a i → r ≡ ltree (suite_of s) (seed_of s) b ends → r ≡ leaf_at (held s sk) s a i
+    → x.secret ≡ sk → x.seed ≡ s → x.at ≡ ots_at a i → held_all x.seed ends ≡ wots_pk (suite_of x.seed) (seed_of x.seed) x.at (value_of x)
+    → b ≡ ltree_at a i → r ≡ ltree (suite_of s) (seed_of s) b (held_all s ends) → r ≡ leaf_at (held s sk) s a i
 unfolding leaf_at leaf_of
-leaf_by sk s a i x b ends r es ep ea eS ee eb er =
+leaf_by sk s a i x b ends r es ep ea ee eb er =
     er ∙ ap₂ (ltree (suite_of s) (seed_of s)) eb
-    (ee ∙ ap (λ (c : Address). wots_pk (suite_of s) (seed_of s) c (value_of x)) ea
-    ∙ pk_ext (suite_of s) (seed_of s) (ots_at a i) _ _ (value_is (suite_of s) sk s.bytes a i x es ep ea eS))
+    (ap (λ (t : Seed). held_all t ends) (sym ep) ∙ ee
+    ∙ ap₂ (λ (t : Seed) (c : Address). wots_pk (suite_of t) (seed_of t) c (value_of x)) ep ea
+    ∙ pk_ext (suite_of s) (seed_of s) (ots_at a i) _ _ (value_is sk s a i x es ep ea))
 
 -- a node of a path, read at its place; w is how the code has n
 pub node_read : (n w h : ℕ) (path r : List ℕ) (k : ℕ) → w ≡ n → k < h → w * k + w ≤ length path

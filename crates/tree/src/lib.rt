@@ -12,6 +12,7 @@ ghost use Rattle.keyed.specs.Seeds.{suite_of, held, held_first, held_all, values
 ghost use Rattle.tree.specs.Keys.{leaf_at};
 
 use keyed::Seed;
+use onetime::Secrets;
 use rfc8391::Address;
 
 // Two values joined. The selector is set for each key and mask, so that none is left over.
@@ -75,8 +76,7 @@ fn ltree_root(s: Seed, a: Address, ends: [[u8; 32]; 67]) -> [u8; 32]
 pub fn leaf(secret: [u8; 32], s: Seed, a: Address, i: u32) -> [u8; 32]
     ensures { held s result ≡ leaf_at (held s secret) s a i }
 {
-    let x = onetime::secrets_of(secret, s, a.ots_at(i));
-    let ends = onetime::ends_of(x, s);
+    let ends = Secrets::prepare(secret, s, a.ots_at(i)).ends();
     ltree_root(s, a.ltree_at(i), ends)
 }
 

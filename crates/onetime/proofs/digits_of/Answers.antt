@@ -10,14 +10,14 @@ use Rattle.lists.proofs.Filling.{filling_start, filling_more, filling_front}
 use Rattle.onetime.proofs.digits_of.Goals as goal
 
 pub loop-i-init : goal.loop-i-init
-loop-i-init c = (filling_start 67 _ (replicate 67 0) refl, omega arith)
+loop-i-init c = filling_start 67 _ (replicate 67 0) refl
 
 pub loop-i-preserved : goal.loop-i-preserved
-loop-i-preserved c = (filling_more 67 _ _ _ _ c.digit_of.ensures (omega arith) c.loop-i.invariant.0, omega arith)
+loop-i-preserved c = filling_more 67 _ _ _ _ c.digit_of.ensures (omega arith) c.loop-i.invariant
 
 pub returns : goal.returns
 unfolding digits to_byte
 returns c =
     let e = c.checksum_of-shifted.ensures.0 in
-    rw (← e) (filling_front 67 _ _ _ (c.args.k + 3) (omega arith) c.loop-i.invariant.0 ∙ tab-get_or _ _ 0
+    rw (← e) (filling_front 67 _ _ _ (c.args.k + 3) (omega arith) c.loop-i.invariant ∙ tab-get_or _ _ 0
     (simp (length-append, length-base_w)))

@@ -14,7 +14,7 @@ use Rattle.onetime.proofs.ends_from.Goals as goal
 use Rattle.onetime.proofs.ends_from.Goals.{After-digits_of-d, In-loop-c}
 
 pub loop-c-init : goal.loop-c-init
-loop-c-init c = (filling_start 67 _ (fronts _ (replicate 67 (replicate 32 0))) (length-fronts _ (replicate 67 (replicate 32 0))), omega arith)
+loop-c-init c = filling_start 67 _ (fronts _ (replicate 67 (replicate 32 0))) (length-fronts _ (replicate 67 (replicate 32 0)))
 
 -- value c of the values
 within : (c : In-loop-c)
@@ -31,32 +31,28 @@ digits-known : (c : After-digits_of-d)
     (len₁ (suite_of c.args.s)) c.args.m
 digits-known c = rw c.value_length-n.ensures.0 at c.digits_of-d.ensures
 
-pub walk_on-w-requires : goal.walk_on-w-requires
-walk_on-w-requires c = (
-  simp (length-take, length-drop) (omega (arith, within (goal.at.walk_on-w-requires c).In-loop-c, c.value_length-n.ensures.0)),
+pub walk_on-requires : goal.walk_on-requires
+walk_on-requires c = (
+  simp (length-take, length-drop) (omega (arith, within (goal.at.walk_on-requires c).In-loop-c, c.value_length-n.ensures.0)),
   omega (
     arith,
-    digit_most (suite_of c.args.s) _ _ (digits-known (goal.at.walk_on-w-requires c).After-digits_of-d) c.loop-c.c
+    digit_most (suite_of c.args.s) _ _ (digits-known (goal.at.walk_on-requires c).After-digits_of-d) c.loop-c.c
         (omega arith),
-    c.wide.ensures.0,
+    c.from.ensures,
   ),
 )
 
 pub loop-c-preserved : goal.loop-c-preserved
 loop-c-preserved c =
-    let a = c.args in (
-      fronts_more 67 _ (suite_of a.s).n _ _ _
-          (end_by (suite_of a.s) (seed_of a.s) a.a c.digits_of-d.result a.values.now c.loop-c.c _ _ _ _ _
-          c.value_length-n.ensures.0 c.set_chain_address.ensures refl
-          c.wide.ensures.0 c.walk_on-w.ensures)
-          (omega arith) c.loop-c.invariant.0,
-      omega arith,
-    )
+    let a = c.args in
+    fronts_more 67 _ (suite_of a.s).n _ _ _
+    (end_by (suite_of a.s) (seed_of a.s) a.a c.digits_of-d.result a.values.now c.loop-c.c _ _ _ _ _
+    c.value_length-n.ensures.0 c.set_chain_address.ensures refl c.from.ensures c.walk_on.ensures) (omega arith) c.loop-c.invariant
 
 pub returns : goal.returns
 returns c =
     let a = c.args in
-    filling_front 67 _ _ _ (len (suite_of a.s)) (omega arith) c.loop-c.invariant.0
+    filling_front 67 _ _ _ (len (suite_of a.s)) (omega arith) c.loop-c.invariant
     ∙ ends_from (suite_of a.s) (seed_of a.s) a.a a.m _ a.values.now (digits-known (goal.at.returns c).After-digits_of-d)
 
 pub overflow_mul-at : goal.overflow_mul-at

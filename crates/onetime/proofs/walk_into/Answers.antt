@@ -11,7 +11,7 @@ write_value-requires c = omega (arith, seed_fits c.args.s)
 
 pub returns : goal.returns
 returns c =
-    let w = c.walk-w in (
+    let w = c.walk-walked in (
       w.ensures,
       c.write_value.ensures ∙ ap (λ (k : ℕ). take k w.result.value)
           c.requires.0,

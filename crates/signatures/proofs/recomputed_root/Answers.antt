@@ -3,7 +3,7 @@ use mathlib.Core.Path.{◌≡◌, sym, ap, ◌∙◌}
 use Prim.Native.Nat.{ℕ, ◌+◌}
 use native.Mathlib.Omega.{arith}
 use lib.ListN.{length, take, drop}
-use Rattle.rfc8391.specs.Suite.{Suite}
+use Rattle.rfc8391.specs.declared.Hash.{Hash}
 use Rattle.rfc8391.specs.Formats.{value_length, path_start, signature_length}
 use Rattle.rfc8391.proofs.Values.{value_at}
 use Rattle.keyed.specs.Suites.{suite}
@@ -24,7 +24,7 @@ sizes c =
 
 -- the seed's suite has values of n bytes
 width : (c : After-prepare-seed) → (suite_of c.prepare-seed.result).n ≡ c.value_length-n.result
-width c = ap (λ (S : Suite). S.n) c.prepare-seed.ensures.1
+width c = ap (λ (h : Hash). (suite h).n) c.prepare-seed.ensures.1
     ∙ suite_length c.args.hash
     ∙ sym c.value_length-n.ensures.0
 
@@ -97,5 +97,5 @@ returns c =
     c.message_digest-digest.ensures c.root_from_signature.ensures in
     ap (λ (n : ℕ). take n c.root_from_signature.result) (sym v.ensures.0 ∙ w)
     ∙ x
-    ∙ ap (λ (T : Suite). root_by T T.n c.args.height key m sig) c.prepare-seed.ensures.1
+    ∙ ap (λ (h : Hash). root_by (suite h) (suite h).n c.args.height key m sig) c.prepare-seed.ensures.1
     ∙ ap (λ (n : ℕ). root_by (suite c.args.hash) n c.args.height key m sig) (suite_length c.args.hash)

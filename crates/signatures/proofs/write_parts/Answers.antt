@@ -15,11 +15,11 @@ r-length c = search rules
 
 pub returns : goal.returns
 returns c =
-    let x = c.secrets_of in
+    let x = c.prepare in
     let k = held c.args.s c.args.secret in
     let m = held c.args.s c.args.m in
-    let values = values_are c.write_head.new.out _ c.args.secret c.args.s m c.args.index _ _ x.result
-    c.single_tree.ensures c.ots_at-at.ensures x.ensures.1 x.ensures.2 x.ensures.3 x.ensures.4 c.write_values.ensures in
+    let values = values_are c.write_head.new.out _ c.args.secret c.args.s c.args.m c.args.index _ _ x.result
+    c.single_tree.ensures c.ots_at-at.ensures x.ensures.0 x.ensures.1 x.ensures.2 c.write_values.ensures in
     assembled c.args.out.now _ _ _ (to_byte c.args.index 4) c.args.r (chain_values k c.args.s c.args.index m)
     (path_nodes k c.args.s c.args.index) (length-to_byte c.args.index 4) (r-length (goal.at.returns c).Start) c.requires.2 c.write_values.auto.out
     c.write_head.ensures values c.write_path.ensures

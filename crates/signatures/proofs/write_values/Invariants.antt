@@ -10,7 +10,7 @@ use Rattle.signatures.proofs.write_values.Given as goal
 
 abbrev pub invariant-loop-c : goal.invariant-loop-c
 invariant-loop-c l =
-    Written 36 32 (λ k. chain (suite_of l.s) (seed_of l.s) (set_chain_address l.a k) (value_of l.x k) 0 (get_or l.d k 0))
+    Written 36 32 (λ k. chain (suite_of l.x.seed) (seed_of l.x.seed) (set_chain_address l.a k) (value_of l.x k) 0 (get_or l.d k 0))
     l.initial.out l.out l.c
     × (l.c ≤ 67)
 
