@@ -12,6 +12,7 @@ ghost use Rattle.operations.specs.Make.{make_end, make_of};
 ghost use Rattle.operations.specs.Sign.{sign_refusals, sign_end, sign_of};
 
 use marks::Tally;
+use records::SecretKey;
 use rfc8391::KeyType;
 
 // What checking answers. A later request adds a count of steps.
@@ -73,9 +74,9 @@ pub fn make(kind: u32, material: &[u8], secret: &mut [u8], key: &mut [u8]) -> Ma
     if key.len() != 68 {
         return Made { outcome: 11 };
     }
-    let root = records::made_root(material);
-    records::write_record(secret, material, root);
-    records::write_key(key, root, rfc8391::value_of(&material[64..96]));
+    let made = SecretKey::made(material);
+    made.write(secret);
+    records::write_key(key, made.root, made.public);
     Made { outcome: 0 }
 }
 

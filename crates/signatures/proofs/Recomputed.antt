@@ -3,34 +3,17 @@ use mathlib.Core.Path.{◌≡◌, ◌∙◌}
 use mathlib.Core.List.{List}
 use Prim.Native.Nat.{ℕ, ◌+◌, ◌-◌, ◌*◌, ◌≤◌}
 use native.Mathlib.Omega.{arith}
-use lib.ListN.{length, take, drop, length-take, length-drop}
+use lib.ListN.{length, take, drop}
 use Rattle.lists.specs.Lists.{parts}
 use Rattle.lists.specs.Bytes.{number}
 use Rattle.lists.proofs.Flats.{parts_of_part}
 use Rattle.rfc8391.specs.Suite.{Suite}
 use Rattle.rfc8391.specs.Wots.{len}
 use Rattle.rfc8391.specs.Xmss.{message_digest, root_from_sig}
-use Rattle.rfc8391.specs.Formats.{key_length, key_from, values_start, path_start, signature_length, signature_from, single_tree}
+use Rattle.rfc8391.specs.Formats.{key_from, values_start, path_start, signature_length, signature_from, single_tree}
 use Rattle.rfc8391.specs.declared.Address.{Address}
 use Rattle.rfc8391.proofs.Values.{value_at}
 use Rattle.signatures.specs.Recomputed.{root_by}
-
--- how long a key and a signature of values of n bytes are, and where its path begins
-pub record Sizes (n p k s h : ℕ) : Type 0 where
-  pub key : k ≡ 4 + n + n
-  pub path : p ≡ 4 + n + n * (2 * n + 3)
-  pub sig : s ≡ p + n * h
-
-pub sizes_by : (n w p k s h : ℕ) → w ≡ n → p ≡ path_start n → k ≡ key_length n → s ≡ signature_length n h → Sizes w p k s h
-unfolding path_start key_length signature_length
-sizes_by n w p k s h ew ep ek es = record { key = rw ew ek; path = rw ew ep; sig = rw (ew, ep) es }
-
-pub values_length : (S : Suite) (n p k h : ℕ) (sig : List ℕ) → S.n ≡ n → Sizes n p k (length sig) h
-    → length (take (p - (4 + n)) (drop (4 + n) sig)) ≡ S.n * len S
-values_length S n p k h sig e z = rw e (simp (length-take, length-drop) (omega (arith, z.path, z.sig)))
-
-pub path_length : (S : Suite) (n p k h : ℕ) (sig : List ℕ) → S.n ≡ n → Sizes n p k (length sig) h → length (take (length sig - p) (drop p sig)) ≡ S.n * h
-path_length S n p k h sig e z = rw e (simp (length-take, length-drop) (omega (arith, z.sig)))
 
 -- the seed, which stands behind the root
 pub seed_at : (n w : ℕ) (key v : List ℕ) → w ≡ n → 4 + w + w ≤ length key

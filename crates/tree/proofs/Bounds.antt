@@ -39,19 +39,19 @@ sibling_below p d q =
     (λ (z : 0 < p % 2). rw (sibling_of_right p (λ n. omega arith)) (omega arith))
     (eq-zero-or-pos (p % 2))
 
-pub sibling_within : (h i k p b : ℕ) → h ≤ 20 → i < 2 ^ h → k < h → p ≡ i / 2 ^ k → b ≡ sibling p → Within k b
-sibling_within h i k p b t q l ep eb =
+pub sibling_within : (h i k b : ℕ) → h ≤ 20 → i < 2 ^ h → k < h → b ≡ sibling (i / 2 ^ k) → Within k b
+sibling_within h i k b t q l eb =
     let s : h - k ≡ suc (h - k - 1) = omega arith in
-    let pb : p < 2 ^ suc (h - k - 1) = rw (← s, ep) (ancestor_below h i k q (omega arith)) in
-    let bb : b < 2 ^ (h - k) = rw (s, eb) (sibling_below p (h - k - 1) pb) in
+    let pb : i / 2 ^ k < 2 ^ suc (h - k - 1) = rw (← s) (ancestor_below h i k q (omega arith)) in
+    let bb : b < 2 ^ (h - k) = rw (s, eb) (sibling_below (i / 2 ^ k) (h - k - 1) pb) in
     let m : (b + 1) * 2 ^ k ≤ 2 ^ (h - k) * 2 ^ k = mul-le-mul_right (2 ^ k) (omega arith) in
     let e : 2 ^ (h - k) * 2 ^ k ≡ 2 ^ h = sym (pow-add 2 (h - k) k) ∙ ap (λ (n : ℕ). 2 ^ n) (omega arith) in
     let u : 2 ^ h ≤ 2 ^ 20 = pow_mono t in
     omega arith
 
 -- the position is a u32 well within 2 ^ 20
-pub position_below : (h i k p : ℕ) → h ≤ 20 → i < 2 ^ h → k ≤ h → p ≡ i / 2 ^ k → p < 1048576
-position_below h i k p t q l e =
-    let b : p < 2 ^ (h - k) = rw e (ancestor_below h i k q l) in
+pub position_below : (h i k : ℕ) → h ≤ 20 → i < 2 ^ h → k ≤ h → i / 2 ^ k < 1048576
+position_below h i k t q l =
+    let b : i / 2 ^ k < 2 ^ (h - k) = ancestor_below h i k q l in
     let u : 2 ^ (h - k) ≤ 2 ^ 20 = pow_mono {j = 20} (omega arith) in
     omega arith

@@ -18,7 +18,8 @@ use Rattle.keyed.specs.Seeds.{suite_of, held, held_all, seed_of}
 use Rattle.keyed.specs.declared.Seed.{Seed}
 use Rattle.onetime.specs.Secrets.{value_of}
 use Rattle.onetime.specs.declared.Secrets.{Secrets}
-use Rattle.tree.specs.Keys.{leaf_at}
+use Rattle.tree.specs.Keys.{leaf_at, leaves}
+use Rattle.tree.specs.declared.Tree.{Tree}
 
 -- a join, from its key, its masks and their exclusive ors; a value stands at the front of 32 bytes
 pub join_by : (S : Suite) (seed : List ℕ) (a : Address) (l r key m₁ m₂ x y out : List ℕ) → S.n ≤ 32
@@ -29,22 +30,23 @@ unfolding rand_hash
 join_by S seed a l r key m₁ m₂ x y out h ek e₁ e₂ ex ey eo =
     rw (eo, ex, ey, xor_front S.n 32 l m₁ h, xor_front S.n 32 r m₂ h, ek, e₁, e₂)
 
--- the secret values that are ready for leaf i are the key's
-pub value_is : (sk : List ℕ) (s : Seed) (a : Address) (i : ℕ) (x : Secrets) → x.secret ≡ sk → x.seed ≡ s → x.at ≡ ots_at a i
-    → (c : ℕ) → value_of x c ≡ secrets (suite_of s) (held s sk) (seed_of s) a i c
+-- the secret values that are ready for leaf i are the tree's
+pub value_is : (t : Tree) (i : ℕ) (x : Secrets) → x.secret ≡ t.secret → x.seed ≡ t.seed → x.at ≡ ots_at t.at i
+    → (c : ℕ) → value_of x c ≡ secrets (suite_of t.seed) (held t.seed t.secret) (seed_of t.seed) t.at i c
 unfolding value_of secrets
-value_is sk s a i x es ep ea c = rw (es, ep, ea)
+value_is t i x es ep ea c = rw (es, ep, ea)
 
 -- a leaf, from the chain ends of its secret values
-pub leaf_by : (sk : List ℕ) (s : Seed) (a : Address) (i : ℕ) (x : Secrets) (b : Address) (ends : List (List ℕ)) (r : List ℕ)
-    → x.secret ≡ sk → x.seed ≡ s → x.at ≡ ots_at a i → held_all x.seed ends ≡ wots_pk (suite_of x.seed) (seed_of x.seed) x.at (value_of x)
-    → b ≡ ltree_at a i → r ≡ ltree (suite_of s) (seed_of s) b (held_all s ends) → r ≡ leaf_at (held s sk) s a i
+pub leaf_by : (t : Tree) (i : ℕ) (x : Secrets) (b : Address) (ends : List (List ℕ)) (r : List ℕ)
+    → x.secret ≡ t.secret → x.seed ≡ t.seed → x.at ≡ ots_at t.at i → held_all x.seed ends ≡ wots_pk (suite_of x.seed) (seed_of x.seed) x.at (value_of x)
+    → b ≡ ltree_at t.at i → r ≡ ltree (suite_of t.seed) (seed_of t.seed) b (held_all t.seed ends) → r ≡ leaves t i
 unfolding leaf_at leaf_of
-leaf_by sk s a i x b ends r es ep ea ee eb er =
-    er ∙ ap₂ (ltree (suite_of s) (seed_of s)) eb
-    (ap (λ (t : Seed). held_all t ends) (sym ep) ∙ ee
-    ∙ ap₂ (λ (t : Seed) (c : Address). wots_pk (suite_of t) (seed_of t) c (value_of x)) ep ea
-    ∙ pk_ext (suite_of s) (seed_of s) (ots_at a i) _ _ (value_is sk s a i x es ep ea))
+leaf_by t i x b ends r es ep ea ee eb er =
+    er ∙ ap₂ (ltree (suite_of t.seed) (seed_of t.seed)) eb
+    (ap (λ (s : Seed). held_all s ends) (sym ep)
+    ∙ ee
+    ∙ ap₂ (λ (s : Seed) (c : Address). wots_pk (suite_of s) (seed_of s) c (value_of x)) ep ea
+    ∙ pk_ext (suite_of t.seed) (seed_of t.seed) (ots_at t.at i) _ _ (value_is t i x es ep ea))
 
 -- a node of a path, read at its place; w is how the code has n
 pub node_read : (n w h : ℕ) (path r : List ℕ) (k : ℕ) → w ≡ n → k < h → w * k + w ≤ length path

@@ -7,13 +7,14 @@
 ghost use Rattle.std.specs.Prelude.{◌≡◌, ◌+◌, ◌*◌, ◌/◌, ◌%◌, ◌^◌, ◌<◌, ◌≤◌, length};
 ghost use Rattle.lists.specs.Lists.{flat};
 ghost use Rattle.rfc8391.specs.Wots.{len};
-ghost use Rattle.rfc8391.specs.Xmss.{tree_at, sibling, rand_hash, ltree_round, ltree, node, auth_path, climb, root_from_path, root_from_sig};
+ghost use Rattle.rfc8391.specs.Xmss.{ots_at, tree_at, sibling, rand_hash, ltree_round, ltree, node, auth_path, climb, root_from_path, root_from_sig};
+ghost use Rattle.rfc8391.specs.Formats.{single_tree};
 ghost use Rattle.keyed.specs.Seeds.{suite_of, held, held_first, held_all, values_in, seed_of};
-ghost use Rattle.tree.specs.Keys.{leaf_at};
+ghost use Rattle.tree.specs.Keys.{leaves};
 
 use keyed::Seed;
 use onetime::Secrets;
-use rfc8391::Address;
+use rfc8391::{Address, Hash};
 
 // Two values joined. The selector is set for each key and mask, so that none is left over.
 fn join(s: Seed, a: Address, left: [u8; 32], right: [u8; 32]) -> [u8; 32]
@@ -35,23 +36,12 @@ fn ltree_round(s: Seed, a: Address, height: u32, mut v: [[u8; 32]; 67], w: usize
     requires { w ≤ 67 }
     ensures { held_first s ((w + 1) / 2) result ≡ ltree_round (suite_of s) (seed_of s) a height (held_first s w v) }
 {
-    let half = w / 2;
-    let mut i = 0;
-    while i < half {
-        let left = v[2 * i];
-        let right = v[2 * i + 1];
-        let joined = join(
-            s,
-            a.set_tree_height(height).set_tree_index(i as u32),
-            left,
-            right,
-        );
-        v[i] = joined;
-        i += 1;
+    for i in 0..w / 2 {
+        let at = a.set_tree_height(height).set_tree_index(i as u32);
+        v[i] = join(s, at, v[2 * i], v[2 * i + 1]);
     }
     if w % 2 == 1 {
-        let last = v[w - 1];
-        v[half] = last;
+        v[w / 2] = v[w - 1];
     }
     v
 }
@@ -72,14 +62,6 @@ fn ltree_root(s: Seed, a: Address, ends: [[u8; 32]; 67]) -> [u8; 32]
     v[0]
 }
 
-// The leaf i of the key with this secret seed.
-pub fn leaf(secret: [u8; 32], s: Seed, a: Address, i: u32) -> [u8; 32]
-    ensures { held s result ≡ leaf_at (held s secret) s a i }
-{
-    let ends = Secrets::prepare(secret, s, a.ots_at(i)).ends();
-    ltree_root(s, a.ltree_at(i), ends)
-}
-
 // A join on the way up carries the height of the two nodes and the position of the one above them.
 fn join_at(
     s: Seed,
@@ -94,21 +76,6 @@ fn join_at(
     join(s, a.tree_at(height, above), left, right)
 }
 
-// The node of a height at a position, from its two nodes of the height below.
-pub fn node_at(secret: [u8; 32], s: Seed, a: Address, height: u32, position: u32) -> [u8; 32]
-    requires { (position + 1) * 2 ^ height ≤ 1048576 }
-    ensures { held s result ≡ node (suite_of s) (seed_of s) a (leaf_at (held s secret) s a) height position }
-{
-    if height == 0 {
-        leaf(secret, s, a, position)
-    } else {
-        let k = height - 1;
-        let left = node_at(secret, s, a, k, 2 * position);
-        let right = node_at(secret, s, a, k, 2 * position + 1);
-        join_at(s, a, k, position, left, right)
-    }
-}
-
 // The other position of a pair.
 fn beside(position: u32) -> u32
     requires { position < 1048576 }
@@ -121,20 +88,65 @@ fn beside(position: u32) -> u32
     }
 }
 
-// The path of a leaf into a lent part: at each height the sibling of the leaf's ancestor, from the leaf up.
-pub fn write_path(out: &mut [u8], secret: [u8; 32], s: Seed, a: Address, height: u32, index: u32)
-    requires { (height ≤ 20) × (index < 2 ^ height) × (length out.old ≡ (suite_of s).n * height) }
-    ensures { out.new ≡ flat (auth_path (suite_of s) (seed_of s) a (leaf_at (held s secret) s a) height index) }
-{
-    let n = s.value_length();
-    let mut position = index;
-    let mut k = 0;
-    while k < height {
-        let at = n * (k as usize);
-        let other = node_at(secret, s, a, k, beside(position));
-        rfc8391::write_value(&mut out[at..at + n], other);
-        position /= 2;
-        k += 1;
+// One key's tree: the secret seed of its leaves, the public seed, and the address, which carries layer and tree.
+#[derive(Clone, Copy)]
+pub struct Tree {
+    pub secret: [u8; 32],
+    pub seed: Seed,
+    pub at: Address,
+}
+
+impl Tree {
+    // The one tree of a key of XMSS.
+    pub fn single(hash: Hash, secret: [u8; 32], public: [u8; 32]) -> Self
+        ensures { (result.secret ≡ secret) × (result.seed.bytes ≡ public) × (result.seed.hash ≡ hash) × (result.at ≡ single_tree) }
+    {
+        Self {
+            secret,
+            seed: Seed::prepare(hash, public),
+            at: Address::single_tree(),
+        }
+    }
+
+    // What the secret values of leaf i need.
+    pub fn secrets(self, i: u32) -> Secrets
+        ensures { (result.secret ≡ self.secret) × (result.seed ≡ self.seed) × (result.at ≡ ots_at self.at i) }
+    {
+        Secrets::prepare(self.secret, self.seed, self.at.ots_at(i))
+    }
+
+    pub fn leaf(self, i: u32) -> [u8; 32]
+        ensures { held self.seed result ≡ leaves self i }
+    {
+        ltree_root(self.seed, self.at.ltree_at(i), self.secrets(i).ends())
+    }
+
+    // The node of a height at a position, from its two nodes of the height below.
+    pub fn node(self, height: u32, position: u32) -> [u8; 32]
+        requires { (position + 1) * 2 ^ height ≤ 1048576 }
+        ensures { held self.seed result ≡ node (suite_of self.seed) (seed_of self.seed) self.at (leaves self) height position }
+    {
+        if height == 0 {
+            self.leaf(position)
+        } else {
+            let k = height - 1;
+            let left = self.node(k, 2 * position);
+            let right = self.node(k, 2 * position + 1);
+            join_at(self.seed, self.at, k, position, left, right)
+        }
+    }
+
+    // The path of a leaf into a lent part: at each height the sibling of the leaf's ancestor, from the leaf up.
+    pub fn write_path(self, out: &mut [u8], height: u32, index: u32)
+        requires { (height ≤ 20) × (index < 2 ^ height) × (length out.old ≡ (suite_of self.seed).n * height) }
+        ensures { out.new ≡ flat (auth_path (suite_of self.seed) (seed_of self.seed) self.at (leaves self) height index) }
+    {
+        let n = self.seed.value_length();
+        for k in 0..height {
+            let at = n * (k as usize);
+            let other = self.node(k, beside(index >> k));
+            rfc8391::write_value(&mut out[at..at + n], other);
+        }
     }
 }
 
@@ -163,14 +175,11 @@ fn root_from_path(
 {
     let n = s.value_length();
     let mut v = start;
-    let mut position = index;
-    let mut k = 0;
-    while k < height {
+    for k in 0..height {
         let at = n * (k as usize);
-        let next = climb_by(s, a, k, position, v, rfc8391::value_of(&path[at..at + n]));
+        let node = rfc8391::value_of(&path[at..at + n]);
+        let next = climb_by(s, a, k, index >> k, v, node);
         v = next;
-        position /= 2;
-        k += 1;
     }
     v
 }

@@ -1,7 +1,5 @@
 -- Each answer, by the tests that lead to it.
 use Rattle.operations.proofs.Makes.{material_wrong, type_unserved, buffers_wrong, makes}
-use native.Mathlib.Omega.{arith}
-use Rattle.rfc8391.proofs.Values.{whole_at}
 use Rattle.operations.proofs.make.Goals as goal
 
 pub returns-then-material-ne96 : goal.returns-then-material-ne96
@@ -18,9 +16,7 @@ returns-then-key-ne68 c = buffers_wrong _ _ _ _ c.if-material-ne96.false c.if-ki
 
 pub returns : goal.returns
 returns c =
-    let m = c.args.material.now in
-    makes _ _ _ _ _ _ _ _ c.if-material-ne96.false
+    makes _ _ _ _ _ _ _ c.if-material-ne96.false
     c.if-kind-ne1.false c.if-secret-ne132.false
-    c.if-key-ne68.false c.made_root-root.ensures
-    (whole_at 32 64 m _ (omega arith) c.value_of.type_inv.1.0.1 c.value_of.ensures)
-    c.write_record.ensures c.write_key.ensures
+    c.if-key-ne68.false c.made-made.ensures
+    c.write.ensures c.write_key.ensures
