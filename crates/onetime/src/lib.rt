@@ -1,6 +1,7 @@
 // WOTS+, the one-time scheme of RFC 8391: digits, chains, secret values by our rule.
 // Uses keyed and what lies below it.
 // The trees and the signatures use it.
+// A seed and an address stand side by side, as in RFC 8391's algorithms: the address is another at each call, so no struct holds both.
 
 #![tactic(auto)]
 
@@ -18,7 +19,7 @@ fn digit_at(x: &[u8], i: usize) -> u8
     ensures { (result ≡ get_or x.now (i / 2) 0 / 16 ^ (1 - i % 2) % 16) × (result ≤ 15) }
 {
     let b = x[i / 2];
-    if i % 2 == 0 { b / 16 % 16 } else { b / 1 % 16 }
+    if i % 2 == 0 { b / 16 } else { b % 16 }
 }
 
 fn checksum_of(m: [u8; 32], k: usize) -> u32
@@ -49,7 +50,7 @@ pub fn digits_of(m: [u8; 32], k: usize) -> [u8; 67]
     ensures { take (k + 3) result ≡ digits k m }
 {
     let shifted = checksum_of(m, k) * 16;
-    let c = [(shifted / 256 % 256) as u8, (shifted / 1 % 256) as u8];
+    let c = (shifted as u16).to_be_bytes();
     let mut out = [0u8; 67];
     for i in 0..k + 3 {
         out[i] = digit_of(m, k, c, i);
@@ -67,7 +68,7 @@ fn chain_step(s: Seed, a: Address, j: u32, x: [u8; 32]) -> [u8; 32]
     keyed::f(s.hash, key, rfc8391::xored(x, mask))
 }
 
-// What a walk along a chain gives.
+// What a walk along a chain gives: a count of its steps may join the value.
 #[derive(Clone, Copy)]
 pub struct Walked {
     pub value: [u8; 32],
@@ -103,23 +104,21 @@ fn walk_on(part: &[u8], s: Seed, a: Address, digit: u32) -> Walked
     walk(s, a, rfc8391::value_of(part), digit, 15 - digit)
 }
 
-// The chain ends to which the chain values of a signature lead, at the one-time address a.
+// The chain ends to which the chain values of a signature lead, at the one-time address a. The loop of `Secrets::ends` is its like, but goes
+// over no values: a closure for the turns of both would need a contract of its own in both, and be longer than two loops.
 pub fn ends_from(values: &[u8], s: Seed, a: Address, m: [u8; 32]) -> [[u8; 32]; 67]
     requires { length values.now ≡ (suite_of s).n * len (suite_of s) }
     ensures { held_all s result ≡ wots_pk_from_sig (suite_of s) (seed_of s) a (held s m) (values_in s (len (suite_of s)) values.now) }
 {
     let n = s.value_length();
     let d = digits_of(m, 2 * n);
+    let mut rest = values;
     let mut ends = [[0u8; 32]; 67];
     for c in 0..2 * n + 3 {
-        let at = n * c;
-        let Walked { value } = walk_on(
-            &values[at..at + n],
-            s,
-            a.set_chain_address(c as u32),
-            u32::from(d[c]),
-        );
+        let (part, after) = rest.split_at(n);
+        let Walked { value } = walk_on(part, s, a.set_chain_address(c as u32), u32::from(d[c]));
         ends[c] = value;
+        rest = after;
     }
     ends
 }

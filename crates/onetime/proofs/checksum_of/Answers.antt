@@ -1,5 +1,5 @@
 use native.Mathlib.Omega.{arith}
-use mathlib.Core.Path.{◌≡◌, refl}
+use mathlib.Core.Path.{refl}
 use Rattle.rfc8391.proofs.Digits.{checksum_more}
 use Rattle.rfc8391.specs.Wots.{base_w, checksum}
 use Rattle.lists.specs.Lists.{tab}
@@ -13,8 +13,3 @@ pub loop-i-preserved : goal.loop-i-preserved
 loop-i-preserved c =
     let l = c.loop-i in
     (rw (checksum_more c.args.m l.i, ← l.invariant.0, c.from-sum.ensures, ← c.digit_at.ensures.0), omega (arith, c.from-sum.ensures))
-
-pub returns : goal.returns
-returns c =
-    let e : c.loop-i.i ≡ c.args.k = omega arith in
-    (rw e at c.loop-i.invariant.0, omega arith)

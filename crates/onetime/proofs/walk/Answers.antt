@@ -1,5 +1,4 @@
-use native.Mathlib.Omega.{arith}
-use mathlib.Core.Path.{◌≡◌, sym}
+use mathlib.Core.Path.{sym}
 use Rattle.rfc8391.proofs.Chains.{chain_none, chain_more}
 use Rattle.onetime.proofs.walk.Goals as goal
 
@@ -8,8 +7,3 @@ loop-k-init c = sym (chain_none _ _ _ _ _)
 
 pub loop-k-preserved : goal.loop-k-preserved
 loop-k-preserved c = chain_more _ _ _ _ _ _ c.loop-k.invariant c.chain_step-next.ensures
-
-pub returns : goal.returns
-returns c =
-    let e : c.loop-k.k ≡ c.args.steps = omega arith in
-    rw e at c.loop-k.invariant
