@@ -14,6 +14,7 @@ const LONGEST: usize = 65537;
 // More than any type's signature, so that a buffer can be too long.
 const ROOM: usize = 2900;
 
+// What is printed goes by the kit's io, which allocates nothing, and a write that fails ends nothing (docs/DECISIONS.md).
 fn print_bytes(bytes: &[u8]) {
     io::write_all(STDOUT, b" ");
     for byte in bytes {
