@@ -4,6 +4,8 @@
 
 #![tactic(auto)]
 
+use frames::State;
+
 const STDIN: i32 = 0;
 
 const STDOUT: i32 = 1;
@@ -17,27 +19,15 @@ fn main() {
     let mut message = [0u8; 16384];
     let mut out = [0u8; 172032];
     let mut chunk = io::buffer();
-    let mut cur = frames::start();
-    let mut turns = TURNS;
-    while turns > 0 {
+    let mut state = State::start(&mut frame, &mut key, &mut message);
+    for _ in 0..TURNS {
         let got = io::read_full(STDIN, &mut chunk);
         if got == 0 {
             break;
         }
-        let m = frames::take_chunk(
-            &chunk[..got],
-            &mut frame,
-            &mut key,
-            &mut message,
-            cur,
-            &mut out,
-        );
-        cur = m.state;
-        let n = m.n;
+        let n = state.take_chunk(&chunk[..got], &mut out);
         io::write_all(STDOUT, &out[..n]);
-        turns -= 1;
     }
-    let m = frames::end_input(&frame, &mut key, &mut message, cur, &mut out);
-    let n = m.n;
+    let n = state.end_input(&mut out);
     io::write_all(STDOUT, &out[..n]);
 }

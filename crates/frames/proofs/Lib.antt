@@ -1,3 +1,2 @@
 -- The laws of `frames`.
-pub mod Endings
 pub mod Sessions
