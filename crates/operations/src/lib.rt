@@ -4,14 +4,15 @@
 
 #![tactic(auto)]
 
-ghost use Rattle.std.specs.Prelude.{◌≡◌, true, false, ◌^◌, ◌≤◌, take};
+ghost use Rattle.std.specs.Prelude.{◌≡◌, true, false, ◌-◌, ◌^◌, ◌≤◌, take, IfOk};
 ghost use Rattle.outcomes.specs.Outcome.{outcome_of};
+ghost use Rattle.outcomes.specs.Refused.{number_of};
 ghost use Rattle.keyed.specs.Sha2.{sha2};
 ghost use Rattle.operations.specs.Check.{check_of};
-ghost use Rattle.operations.specs.Make.{make_end, make_of};
+ghost use Rattle.operations.specs.Make.{made, make_end, make_of};
 ghost use Rattle.operations.specs.Sign.{sign_refusals, sign_end, sign_of};
 
-use marks::Tally;
+use outcomes::Refusal;
 use records::SecretKey;
 use rfc8391::KeyType;
 
@@ -58,72 +59,86 @@ fn same(a: [u8; 32], b: [u8; 32], n: usize) -> bool
     true
 }
 
-// Makes a key pair of 96 bytes of seed material: the secret record and the public key, into two lent buffers.
-pub fn make(kind: u32, material: &[u8], secret: &mut [u8], key: &mut [u8]) -> Made
-    ensures { make_end result secret.new key.new ≡ make_of kind material.now secret.old key.old }
+// Writes both buffers of a key pair, or neither.
+fn write_pair(kind: u32, material: &[u8], secret: &mut [u8], key: &mut [u8]) -> Result<(), Refusal>
+    ensures { make_end (made (number_of result)) secret.new key.new ≡ make_of kind material.now secret.old key.old }
 {
     if material.len() != 96 {
-        return Made { outcome: 1 };
+        return Err(Refusal::InputLength);
     }
     if kind != 1 {
-        return Made { outcome: 2 };
+        return Err(Refusal::TypeNotServed);
     }
-    if secret.len() != 132 {
-        return Made { outcome: 11 };
-    }
-    if key.len() != 68 {
-        return Made { outcome: 11 };
+    if secret.len() != 132 || key.len() != 68 {
+        return Err(Refusal::OutLength);
     }
     let made = SecretKey::made(material);
     made.write(secret);
     records::write_key(key, made.root, made.public);
-    Made { outcome: 0 }
+    Ok(())
 }
 
-// What refuses a signature, or 0. The out buffer is only measured.
-fn sign_refusal(secret: &[u8], page: &[u8], session: u32, message: &[u8], out: &[u8]) -> u32
-    ensures { result ≡ outcome_of (sign_refusals sha2 secret.now page.now session message.now out.now) }
+// Makes a key pair of 96 bytes of seed material: the secret record and the public key, into two lent buffers.
+pub fn make(kind: u32, material: &[u8], secret: &mut [u8], key: &mut [u8]) -> Made
+    ensures { make_end result secret.new key.new ≡ make_of kind material.now secret.old key.old }
+{
+    Made {
+        outcome: outcomes::outcome(write_pair(kind, material, secret, key)),
+    }
+}
+
+// The pending index, where a message may be signed with it. The out buffer is only measured.
+fn pending_index(
+    secret: &[u8],
+    page: &[u8],
+    session: u32,
+    message: &[u8],
+    out: &[u8],
+) -> Result<u32, Refusal>
+    ensures outcome { number_of result ≡ outcome_of (sign_refusals sha2 secret.now page.now session message.now out.now) }
+    ensures index { IfOk result (λ i. i ≡ session - 1) }
 {
     if secret.len() != 132 {
-        return 1;
+        return Err(Refusal::InputLength);
     }
     let other_type = lists::big_endian(secret, 0) != 1;
     if other_type {
-        return 2;
+        return Err(Refusal::TypeNotServed);
     }
     if 65536 < message.len() {
-        return 4;
+        return Err(Refusal::MessageTooLong);
     }
     if out.len() != 2500 {
-        return 11;
+        return Err(Refusal::OutLength);
     }
-    let tally = marks::count(page);
-    let Tally::Used(used) = tally else {
-        return 7;
-    };
+    let used = marks::count(page).ok_or(Refusal::PageDamaged)?;
     let nothing_pending = session == 0;
     if nothing_pending {
-        return 10;
+        return Err(Refusal::SessionDoesNotFit);
     }
     let not_marked = used != session;
     if not_marked {
-        return 10;
+        return Err(Refusal::SessionDoesNotFit);
     }
-    0
+    Ok(session - 1)
 }
 
 // Signs a message with the pending index, whose mark must be stored in the page. The session ends with the signature.
 pub fn sign(secret: &[u8], page: &[u8], session: u32, message: &[u8], out: &mut [u8]) -> Signed
     ensures { sign_end result out.new ≡ sign_of secret.now page.now session message.now out.old }
 {
-    let outcome = sign_refusal(secret, page, session, message, out);
-    if outcome != 0 {
-        return Signed { outcome, session };
-    }
-    signatures::write_signature(secret, session - 1, message, out);
-    Signed {
-        outcome: 0,
-        session: 0,
+    match pending_index(secret, page, session, message, out) {
+        Ok(index) => {
+            signatures::write_signature(secret, index, message, out);
+            Signed {
+                outcome: 0,
+                session: 0,
+            }
+        }
+        Err(refusal) => Signed {
+            outcome: refusal.number(),
+            session,
+        },
     }
 }
 

@@ -8,6 +8,8 @@ use native.Mathlib.Omega.{arith}
 use lib.Dec.{eqb, leb}
 use borrow.Author.Tests.{eqb-false, leb-true, not-true}
 use Rattle.outcomes.specs.Conditions.{Condition}
+use Rattle.outcomes.specs.Refused.{refusal_number}
+use Rattle.outcomes.specs.declared.Refusal.{Refusal}
 use Rattle.outcomes.specs.Outcome.{Refusals, outcome_of, unless, decided, number_at, First, None, Exactly}
 
 decided_holds : (C : Condition) (n m : ℕ) → C.Holds → decided C.told n m ≡ n
@@ -119,6 +121,21 @@ unless_at done refused l k f = ap (λ (o : ℕ). unless o done refused) (sym (ou
 
 pub unless_none : {A : Type 0} (done : A) (refused : ℕ → A) (l : Refusals) → None l → done ≡ unless (outcome_of l) done refused
 unless_none done refused l n = ap (λ (o : ℕ). unless o done refused) (sym (outcome_none l n))
+
+-- a refusal has a number
+pub numbered : (r : Refusal) → refusal_number r ≡ 0 → ⊥
+numbered r = grind arith
+
+-- the same by the number that is known
+pub unless_done : {A : Type 0} (done : A) (refused : ℕ → A) (o : ℕ) → 0 ≡ o → done ≡ unless o done refused
+unless_done done refused o e = rw (← e)
+
+pub unless_refused : {A : Type 0} (done : A) (refused : ℕ → A) (n o : ℕ) → (n ≡ 0 → ⊥) → n ≡ o → refused n ≡ unless o done refused
+unless_refused done refused n o z e = rw (← e) (go n z)
+  where
+    go : (n : ℕ) → (n ≡ 0 → ⊥) → refused n ≡ unless n done refused
+    go zero z = absurd (z refl)
+    go (suc k) z = refl
 
 -- a number other than 0 that stands at place k alone: given exactly when the condition there is the first that holds; and 0
 pub at_place : (l : Refusals) (k n : ℕ) → (n ≡ 0 → ⊥) → only n l k ≡ true → number_at l k ≡ n → (outcome_of l ≡ n) ↔ First l k

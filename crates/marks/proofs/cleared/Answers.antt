@@ -5,9 +5,6 @@ use Rattle.marks.specs.Page.{cleared}
 use Rattle.marks.proofs.Bytes.{has_bit}
 use Rattle.marks.proofs.cleared.Goals as goal
 
-pub bit_of-requires : goal.bit_of-requires
-bit_of-requires c = c.requires.0
-
 pub overflow_sub-result : goal.overflow_sub-result
 overflow_sub-result c = rw c.bit_of.ensures (has_bit c.args.b c.args.mark c.requires.1)
 
