@@ -12,7 +12,7 @@ ghost use Rattle.rfc8391.specs.Xmss.{ots_at, ltree_at, tree_at};
 ghost use Rattle.rfc8391.specs.Formats.{key_type, single_tree};
 
 // Eight words. What w4, w5 and w6 mean is the type's to say, so that they have two names each below.
-#[derive(Clone, Copy)]
+#[derive(Clone, Copy, Default)]
 pub struct Address {
     pub layer: u32,
     pub treehigh: u32,
@@ -29,19 +29,11 @@ impl Address {
     pub fn single_tree() -> Self
         ensures { result ≡ single_tree }
     {
-        Self {
-            layer: 0,
-            treehigh: 0,
-            treelow: 0,
-            kind: 0,
-            w4: 0,
-            w5: 0,
-            w6: 0,
-            w7: 0,
-        }
+        Self::default()
     }
 
-    // A word that is left from another type would change every key and mask below.
+    // A word that is left from another type would change every key and mask below. The type is a number, as RFC 8391 hashes it: the
+    // contract answers for any, so that it is no enum.
     pub fn set_type(self, x: u32) -> Self
         ensures { result ≡ set_type self x }
     {
