@@ -25,6 +25,7 @@ to_byte_is x zero = refl
 to_byte_is x (suc n) = ap₂ (λ (b : ℕ) (l : List ℕ). b ∷ l) (low_bytes x n) (to_byte_is x n)
 
 -- `u32::from_be_bytes`
-pub from_be_number : (l : List ℕ) (i : ℕ) → from_be_bytes w32 (get_or l i 0 ∷ get_or l (i + 1) 0 ∷ get_or l (i + 2) 0 ∷ get_or l (i + 3) 0 ∷ []) ≡ number l i 4
+pub from_be_number : (l : List ℕ) (i : ℕ)
+    → from_be_bytes w32 (get_or l i 0 ∷ get_or l (i + 1) 0 ∷ get_or l (i + 2) 0 ∷ get_or l (i + 3) 0 ∷ []) ≡ number l i 4
 unfolding number
 from_be_number l i = simp add-zero (omega arith)
