@@ -4,17 +4,17 @@
 
 #![tactic(auto)]
 
-ghost use Rattle.std.specs.Prelude.{◌≡◌, true, false, ◌-◌, ◌^◌, ◌≤◌, take, IfOk};
+ghost use Rattle.std.specs.Prelude.{◌≡◌, ◌-◌, IfOk};
 ghost use Rattle.outcomes.specs.Outcome.{outcome_of};
 ghost use Rattle.outcomes.specs.Refused.{number_of};
 ghost use Rattle.keyed.specs.Sha2.{sha2};
-ghost use Rattle.operations.specs.Check.{check_of};
+ghost use Rattle.keyed.specs.Suites.{suite};
+ghost use Rattle.operations.specs.Check.{check_refusals, check_of};
 ghost use Rattle.operations.specs.Make.{made, make_end, make_of};
 ghost use Rattle.operations.specs.Sign.{sign_refusals, sign_end, sign_of};
 
 use outcomes::Refusal;
 use records::SecretKey;
-use rfc8391::KeyType;
 
 // What checking answers. A later request adds a count of steps.
 #[derive(Clone, Copy)]
@@ -34,29 +34,6 @@ pub struct Made {
 pub struct Signed {
     pub outcome: u32,
     pub session: u32,
-}
-
-// How many leaves a tree has.
-fn leaves(height: u32) -> u32
-    requires { height ≤ 20 }
-    ensures { result ≡ 2 ^ height }
-{
-    1 << height
-}
-
-// Whether two values of n bytes agree in every byte.
-fn same(a: [u8; 32], b: [u8; 32], n: usize) -> bool
-    requires { n ≤ 32 }
-    ensures { (result ≡ true → take n a ≡ take n b) × (result ≡ false → take n a ≡ take n b → ⊥) }
-{
-    let mut i: usize = 0;
-    while i < n {
-        if a[i] != b[i] {
-            return false;
-        }
-        i += 1;
-    }
-    true
 }
 
 // Writes both buffers of a key pair, or neither.
@@ -142,35 +119,37 @@ pub fn sign(secret: &[u8], page: &[u8], session: u32, message: &[u8], out: &mut 
     }
 }
 
-// Checks the signature of a message under a public key. Nothing of a signature is read before the key's type is known.
+// Whether the signature leads to the key's root. Nothing of a signature is read before the key's type is known.
+fn accept(key: &[u8], message: &[u8], signature: &[u8]) -> Result<(), Refusal>
+    ensures { number_of result ≡ outcome_of (check_refusals suite key.now message.now signature.now) }
+{
+    if key.len() != 68 {
+        return Err(Refusal::InputLength);
+    }
+    let kind = rfc8391::key_type(lists::big_endian(key, 0)).ok_or(Refusal::TypeNotServed)?;
+    if signature.len() != kind.length as usize {
+        return Err(Refusal::SignatureLength);
+    }
+    if 65536 < message.len() {
+        return Err(Refusal::MessageTooLong);
+    }
+    if 2u32.pow(kind.height) <= lists::big_endian(signature, 0) {
+        return Err(Refusal::IndexTooLarge);
+    }
+    let n = keyed::value_length(kind.hash);
+    let root = signatures::recomputed_root(kind.hash, kind.height, key, message, signature);
+    if root[..n] != key[4..4 + n] {
+        return Err(Refusal::RootDiffers);
+    }
+    Ok(())
+}
+
+// Checks the signature of a message under a public key.
+#[tactic(auto, unfolding(crate::specs::Check::check_of))]
 pub fn check(key: &[u8], message: &[u8], signature: &[u8]) -> Checked
     ensures { result ≡ check_of key.now message.now signature.now }
 {
-    if key.len() != 68 {
-        return Checked { outcome: 1 };
+    Checked {
+        outcome: outcomes::outcome(accept(key, message, signature)),
     }
-    let kind = rfc8391::key_type(lists::big_endian(key, 0));
-    let KeyType::Served {
-        hash,
-        height,
-        length,
-    } = kind
-    else {
-        return Checked { outcome: 2 };
-    };
-    if signature.len() != length as usize {
-        return Checked { outcome: 3 };
-    }
-    if 65536 < message.len() {
-        return Checked { outcome: 4 };
-    }
-    if leaves(height) <= lists::big_endian(signature, 0) {
-        return Checked { outcome: 5 };
-    }
-    let n = keyed::value_length(hash);
-    let root = signatures::recomputed_root(hash, height, key, message, signature);
-    if !same(root, rfc8391::value_of(&key[4..4 + n]), n) {
-        return Checked { outcome: 6 };
-    }
-    Checked { outcome: 0 }
 }

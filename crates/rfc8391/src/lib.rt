@@ -138,37 +138,35 @@ pub enum Hash {
     Sha2,
 }
 
-// What a type number stands for: a hash, a tree's height and the length of its signatures; or nothing that we know.
+// What a type number stands for: a hash, a tree's height and the length of its signatures.
 #[derive(Clone, Copy)]
-pub enum KeyType {
-    Served {
-        hash: Hash,
-        height: u32,
-        length: u32,
-    },
-    Unknown,
+pub struct KeyType {
+    pub hash: Hash,
+    pub height: u32,
+    pub length: u32,
 }
 
-pub fn key_type(number: u32) -> KeyType
+// The type with a number, where we know one.
+pub fn key_type(number: u32) -> Option<KeyType>
     ensures { result ≡ key_type number }
 {
     match number {
-        1 => KeyType::Served {
+        1 => Some(KeyType {
             hash: Hash::Sha2,
             height: 10,
             length: 2500,
-        },
-        2 => KeyType::Served {
+        }),
+        2 => Some(KeyType {
             hash: Hash::Sha2,
             height: 16,
             length: 2692,
-        },
-        3 => KeyType::Served {
+        }),
+        3 => Some(KeyType {
             hash: Hash::Sha2,
             height: 20,
             length: 2820,
-        },
-        _ => KeyType::Unknown,
+        }),
+        _ => None,
     }
 }
 
