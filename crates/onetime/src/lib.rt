@@ -5,7 +5,7 @@
 
 #![tactic(auto)]
 
-ghost use Rattle.std.specs.Prelude.{◌≡◌, ◌++◌, ◌+◌, ◌-◌, ◌*◌, ◌/◌, ◌%◌, ◌^◌, ◌<◌, ◌≤◌, length, get_or, take};
+ghost use Rattle.std.specs.Prelude.{◌≡◌, ◌++◌, ◌+◌, ◌-◌, ◌*◌, ◌/◌, ◌%◌, ◌^◌, ◌<◌, ◌≤◌, ℕ, length, get_or, take};
 ghost use Rattle.lists.specs.Bytes.{to_byte};
 ghost use Rattle.rfc8391.specs.Wots.{base_w, checksum, digits, len, step, chain, wots_pk, wots_pk_from_sig};
 ghost use Rattle.keyed.specs.Seeds.{suite_of, held, held_all, values_in, seed_of};
@@ -16,32 +16,32 @@ use rfc8391::Address;
 // Digit i of bytes, two a byte, the high half first.
 fn digit_at(x: &[u8], i: usize) -> u8
     requires { i < 2 * length x.now }
-    ensures { (result ≡ get_or x.now (i / 2) 0 / 16 ^ (1 - i % 2) % 16) × (result ≤ 15) }
+    ensures { result ≡ get_or x.now (i / 2) 0 / 16 ^ (1 - i % 2) % 16 }
 {
     let b = x[i / 2];
     if i % 2 == 0 { b / 16 } else { b % 16 }
 }
 
-fn checksum_of(m: [u8; 32], k: usize) -> u32
-    requires { k ≤ 64 }
-    ensures { (result ≡ checksum (base_w m k)) × (result ≤ 960) }
+// Digits of bytes, as many as a lent part has: RFC 8391's base_w.
+fn write_digits(out: &mut [u8], x: &[u8])
+    requires { length out.old ≤ 2 * length x.now }
+    ensures { out.new ≡ base_w x.now (length out.old) }
 {
-    let mut sum = 0;
-    for i in 0..k {
-        sum += u32::from(15 - digit_at(&m, i));
+    for (i, d) in out.iter_mut().enumerate() {
+        *d = digit_at(x, i);
     }
-    sum
 }
 
-fn digit_of(m: [u8; 32], k: usize, c: [u8; 2], i: usize) -> u8
-    requires { (k ≤ 64) × (i < k + 3) }
-    ensures { result ≡ get_or (base_w m k ++ base_w c 3) i 0 }
+// How much the digits leave of 15 each.
+fn checksum_of(digits: &[u8]) -> u32
+    requires { ((i : ℕ) → get_or digits.now i 0 ≤ 15) × (length digits.now ≤ 64) }
+    ensures { (result ≡ checksum digits.now) × (result ≤ 960) }
 {
-    if i < k {
-        digit_at(&m, i)
-    } else {
-        digit_at(&c, i - k)
+    let mut sum = 0;
+    for d in digits {
+        sum += u32::from(15 - *d);
     }
+    sum
 }
 
 // How far the signer walks each chain for the value m: k digits of m, and three of their checksum.
@@ -49,12 +49,10 @@ pub fn digits_of(m: [u8; 32], k: usize) -> [u8; 67]
     requires { k ≤ 64 }
     ensures { take (k + 3) result ≡ digits k m }
 {
-    let shifted = checksum_of(m, k) * 16;
-    let c = (shifted as u16).to_be_bytes();
     let mut out = [0u8; 67];
-    for i in 0..k + 3 {
-        out[i] = digit_of(m, k, c, i);
-    }
+    write_digits(&mut out[..k], &m);
+    let shifted = checksum_of(&out[..k]) * 16;
+    write_digits(&mut out[k..k + 3], &(shifted as u16).to_be_bytes());
     out
 }
 

@@ -1,15 +1,18 @@
 use native.Mathlib.Omega.{arith}
-use mathlib.Core.Path.{refl}
+use mathlib.Core.Path.{refl, ap, ◌∙◌}
+use lib.Seq.{take_all}
 use Rattle.rfc8391.proofs.Digits.{checksum_more}
-use Rattle.rfc8391.specs.Wots.{base_w, checksum}
-use Rattle.lists.specs.Lists.{tab}
+use Rattle.rfc8391.specs.Wots.{checksum}
 use Rattle.onetime.proofs.checksum_of.Goals as goal
 
-pub loop-i-init : goal.loop-i-init
-unfolding base_w tab checksum
-loop-i-init c = (refl, omega arith)
+pub loop-d-init : goal.loop-d-init
+unfolding checksum
+loop-d-init c = (refl, omega arith)
 
-pub loop-i-preserved : goal.loop-i-preserved
-loop-i-preserved c =
-    let l = c.loop-i in
-    (rw (checksum_more c.args.m l.i, ← l.invariant.0, c.from-sum.ensures, ← c.digit_at.ensures.0), omega (arith, c.from-sum.ensures))
+pub loop-d-preserved : goal.loop-d-preserved
+loop-d-preserved c =
+    let l = c.loop-d in
+    (rw (checksum_more c.args.digits.now l.d-index c.loop-d-test.true, ← l.invariant.0, c.from-sum.ensures) refl, omega (arith, c.from-sum.ensures))
+
+pub returns : goal.returns
+returns c = (c.loop-d.invariant.0 ∙ ap checksum (take_all _ _ c.loop-d-test.false), omega arith)
