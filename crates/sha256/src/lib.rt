@@ -128,6 +128,7 @@ fn small_sigma1(x: u32) -> u32
     x.rotate_right(17) ^ x.rotate_right(19) ^ (x >> 10)
 }
 
+// The 16 words of a block.
 fn words_of(bytes: &[u8; 64]) -> [u32; 16]
     ensures { result ≡ block 0 bytes.now }
 {
