@@ -4,7 +4,7 @@
 
 #![tactic(auto)]
 
-ghost use Rattle.std.specs.Prelude.{◌≡◌, ◌+◌, ◌<◌, ◌≤◌, length, slice_index};
+ghost use Rattle.std.specs.Prelude.{◌≡◌, ◌+◌, ◌≤◌, length, slice_index};
 ghost use Rattle.lists.specs.Lists.{tab, flat};
 ghost use Rattle.lists.specs.Bytes.{to_byte, number};
 
@@ -17,13 +17,6 @@ pub fn eight_words(words: [u32; 8]) -> [u8; 32]
         write_number(&mut out[4 * i..4 * i + 4], words[i]);
     }
     out
-}
-
-// A byte as a number.
-pub fn wide(x: u8) -> u32
-    ensures { (result ≡ x) × (result < 256) }
-{
-    x as u32
 }
 
 // The number in the four bytes of m from place at on: a word of a block, a key type, an index.
