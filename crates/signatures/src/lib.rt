@@ -89,7 +89,7 @@ pub fn recomputed_root(
     message: &[u8],
     signature: &[u8],
 ) -> [u8; 32]
-    requires { (height ≤ 20) × (length key.now ≡ key_length (value_length hash))
+    requires { (length key.now ≡ key_length (value_length hash))
         × (length signature.now ≡ signature_length (value_length hash) height) }
     ensures { take (value_length hash) result
         ≡ recomputed hash height key.now message.now signature.now }

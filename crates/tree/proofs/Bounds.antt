@@ -48,10 +48,3 @@ sibling_within h i k b t q l eb =
     let e : 2 ^ (h - k) * 2 ^ k ≡ 2 ^ h = sym (pow-add 2 (h - k) k) ∙ ap (λ (n : ℕ). 2 ^ n) (omega arith) in
     let u : 2 ^ h ≤ 2 ^ 20 = pow_mono t in
     omega arith
-
--- the position is a u32 well within 2 ^ 20
-pub position_below : (h i k : ℕ) → h ≤ 20 → i < 2 ^ h → k ≤ h → i / 2 ^ k < 1048576
-position_below h i k t q l =
-    let b : i / 2 ^ k < 2 ^ (h - k) = ancestor_below h i k q l in
-    let u : 2 ^ (h - k) ≤ 2 ^ 20 = pow_mono {j = 20} (omega arith) in
-    omega arith

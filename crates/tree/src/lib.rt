@@ -16,7 +16,8 @@ use keyed::Seed;
 use onetime::Secrets;
 use rfc8391::{Address, Hash};
 
-// Two values joined. The selector is set for each key and mask, so that none is left over.
+// Two values joined. The selector is set for each key and mask, so that none is left over. Seed and address stand side by side here and
+// below, as SEED and ADRS in each algorithm of RFC 8391: the address is another one at every call.
 fn join(s: Seed, a: Address, left: [u8; 32], right: [u8; 32]) -> [u8; 32]
     ensures { held s result ≡ rand_hash (suite_of s) (seed_of s) a (held s left) (held s right) }
 {
@@ -76,18 +77,6 @@ fn join_at(
     join(s, a.tree_at(height, above), left, right)
 }
 
-// The other position of a pair.
-fn beside(position: u32) -> u32
-    requires { position < 1048576 }
-    ensures { result ≡ sibling position }
-{
-    if position % 2 == 0 {
-        position + 1
-    } else {
-        position - 1
-    }
-}
-
 // One key's tree: the secret seed of its leaves, the public seed, and the address, which carries layer and tree.
 #[derive(Clone, Copy)]
 pub struct Tree {
@@ -144,7 +133,7 @@ impl Tree {
         let n = self.seed.value_length();
         for k in 0..height {
             let at = n * (k as usize);
-            let other = self.node(k, beside(index >> k));
+            let other = self.node(k, (index >> k) ^ 1);
             rfc8391::write_value(&mut out[at..at + n], other);
         }
     }
@@ -170,16 +159,18 @@ fn root_from_path(
     start: [u8; 32],
     path: &[u8],
 ) -> [u8; 32]
-    requires { (height ≤ 20) × (length path.now ≡ (suite_of s).n * height) }
+    requires { length path.now ≡ (suite_of s).n * height }
     ensures { held s result ≡ root_from_path (suite_of s) (seed_of s) a height index (held s start) (values_in s height path.now) }
 {
     let n = s.value_length();
     let mut v = start;
+    let mut position = index;
     for k in 0..height {
         let at = n * (k as usize);
         let node = rfc8391::value_of(&path[at..at + n]);
-        let next = climb_by(s, a, k, index >> k, v, node);
+        let next = climb_by(s, a, k, position, v, node);
         v = next;
+        position /= 2;
     }
     v
 }
@@ -195,8 +186,7 @@ pub fn root_from_signature(
     path: &[u8],
     m: [u8; 32],
 ) -> [u8; 32]
-    requires { (height ≤ 20)
-        × (length values.now ≡ (suite_of s).n * len (suite_of s)) × (length path.now ≡ (suite_of s).n * height) }
+    requires { (length values.now ≡ (suite_of s).n * len (suite_of s)) × (length path.now ≡ (suite_of s).n * height) }
     ensures { held s result
         ≡ root_from_sig (suite_of s) (seed_of s) a height index
         (values_in s (len (suite_of s)) values.now) (values_in s height path.now) (held s m) }

@@ -58,7 +58,7 @@ returns-then-pow-big_endian c =
 pub recomputed_root-root-requires : goal.recomputed_root-root-requires
 recomputed_root-root-requires c =
     let r = row _ _ (typed (goal.at.recomputed_root-root-requires c).In_ok-kind) in
-    (r.few, c.if-key-ne68.false ∙ sym (key_size _), c.if-signature-kind.false ∙ sym r.length)
+    (c.if-key-ne68.false ∙ sym (key_size _), c.if-signature-kind.false ∙ sym r.length)
 
 -- the root to which the signature leads, and the key's
 abbrev Agrees : After-ne → Type 0

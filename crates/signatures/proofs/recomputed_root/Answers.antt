@@ -25,8 +25,8 @@ unfolding path_start signature_length
 root_from_signature-requires c =
     let v = c.value_length-n in
     let w : (suite_of c.prepare-seed.result).n ≡ v.result = width (goal.at.root_from_signature-requires c).After-prepare-seed in
-    let l : length c.args.signature.now ≡ signature_length v.result c.args.height = rw v.ensures.0 c.requires.2 in
-    (c.requires.0, rw w (simp (length-take, length-drop) (omega arith)), rw w (simp (length-take, length-drop) (omega arith)))
+    let l : length c.args.signature.now ≡ signature_length v.result c.args.height = rw v.ensures.0 c.requires.1 in
+    (rw w (simp (length-take, length-drop) (omega arith)), rw w (simp (length-take, length-drop) (omega arith)))
 
 pub returns : goal.returns
 unfolding key_length path_start signature_length
@@ -47,7 +47,7 @@ returns c =
     c.value_of-r.ensures in
     let x : take S.n c.root_from_signature.result ≡ root_by S S.n c.args.height key m sig =
     recomputes S key m sig c.args.height v.result c.path_start-path.result _ _ _ _ _ _ _ w c.path_start-path.ensures
-    (c.requires.2 ∙ ap (λ (n : ℕ). signature_length n c.args.height) (sym v.ensures.0)) seed root r
+    (c.requires.1 ∙ ap (λ (n : ℕ). signature_length n c.args.height) (sym v.ensures.0)) seed root r
     c.big_endian-index.ensures c.single_tree.ensures
     c.message_digest-digest.ensures c.root_from_signature.ensures in
     ap (λ (n : ℕ). take n c.root_from_signature.result) (sym v.ensures.0 ∙ w)

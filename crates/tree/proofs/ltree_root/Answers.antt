@@ -25,12 +25,6 @@ loop-w-init c = (
   search rules,
 )
 
-pub ltree_round-next-requires : goal.ltree_round-next-requires
-ltree_round-next-requires c = omega (arith, seed_fits c.args.s)
-
-pub overflow_add-height : goal.overflow_add-height
-overflow_add-height c = omega (arith, seed_fits c.args.s)
-
 pub loop-w-preserved : goal.loop-w-preserved
 loop-w-preserved c =
     let l = c.loop-w in
