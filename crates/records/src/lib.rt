@@ -1,4 +1,4 @@
-// What is written for a key of type 1: the secret record and the public key, into buffers of the right length.
+// What is written for a key of type 1, into buffers of the right length: the secret record, which is read back too, and the public key.
 // Uses the trees and what lies below them.
 // Signatures and the operations use it.
 
