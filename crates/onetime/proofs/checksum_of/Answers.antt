@@ -1,6 +1,5 @@
 use native.Mathlib.Omega.{arith}
-use mathlib.Core.Path.{refl, ap, ◌∙◌}
-use lib.Seq.{take_all}
+use mathlib.Core.Path.{refl}
 use Rattle.rfc8391.proofs.Digits.{checksum_more}
 use Rattle.rfc8391.specs.Wots.{checksum}
 use Rattle.onetime.proofs.checksum_of.Goals as goal
@@ -13,6 +12,3 @@ pub loop-d-preserved : goal.loop-d-preserved
 loop-d-preserved c =
     let l = c.loop-d in
     (rw (checksum_more c.args.digits.now l.d-index c.loop-d-test.true, ← l.invariant.0, c.from-sum.ensures) refl, omega (arith, c.from-sum.ensures))
-
-pub returns : goal.returns
-returns c = (c.loop-d.invariant.0 ∙ ap checksum (take_all _ _ c.loop-d-test.false), omega arith)

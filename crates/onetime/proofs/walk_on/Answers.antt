@@ -1,4 +1,4 @@
--- From the part's value.
+-- A part of a value's length has at most 32 bytes.
 use native.Mathlib.Omega.{arith}
 use Rattle.keyed.proofs.Suites.{seed_fits}
 use Rattle.onetime.proofs.walk_on.Goals as goal
