@@ -10,7 +10,7 @@ use lib.Dec.{eqb, ltb}
 use borrow.Author.Tests.{eq-eqb, eqb-true, lt-ltb, le-ltb, ltb-true, ltb-false}
 use Rattle.marks.specs.Page.{mark_used, used_below, ordered_below, used, Ordered}
 use Rattle.marks.proofs.Ordered.{FirstUsed}
-use Rattle.marks.proofs.Tests.{and_left, and_right}
+use Rattle.std.proofs.lemmas.Bool.{and_parts}
 
 module _ (page : List ℕ) where
   pub used_le : (n : ℕ) → used_below page n ≤ n
@@ -31,7 +31,7 @@ module _ (page : List ℕ) where
   unfolding ordered_below used_below
   marks_are zero o i h = absurd (not-suc-le-zero h)
   marks_are (suc n) o i h =
-      go (mark_used page n) refl (marks_are n (and_left (ordered_below page n) _ o) i) (and_right (ordered_below page n) _ o)
+      go (mark_used page n) refl (marks_are n (and_parts _ _ o).0 i) (and_parts _ _ o).1
     where
       go : (t : Bool) → mark_used page n ≡ t → (i < n → mark_used page i ≡ ltb i (used_below page n)) →
           (not t || eqb (used_below page n) n) ≡ true → mark_used page i ≡ ltb i (cond t (suc (used_below page n)) (used_below page n))

@@ -1,6 +1,6 @@
 // The page of marks: which indices of a key are used, the next one reserved, and its mark stored before signing.
 // Uses the numbered outcomes and the laws of lists.
-// Signing counts marks by it; reserving and marking are exported as they are.
+// Signing counts marks by it; reserving and marking are exported as they are: a session is C's number, 0 or the pending index plus one.
 
 #![tactic(auto)]
 

@@ -14,8 +14,3 @@ unknown? None = yes refl
 pub verify? : (S : Suite) (a : Address) (h : ℕ) (pk : PublicKey) (m : List ℕ) (sig : Signature) → Dec (verify S a h pk m sig)
 unfolding verify
 verify? S a h pk m sig = List-discrete ℕ_discrete _ _
-
-pub both? : {A B : Type 0} → Dec A → Dec B → Dec (A × B)
-both? (yes a) (yes b) = yes (a, b)
-both? (yes a) (no n) = no (λ p. n p.1)
-both? (no n) d = no (λ p. n p.0)

@@ -1,4 +1,5 @@
-// Making, signing and checking: the answer for every input, and every byte of every buffer.
+// Making, signing and checking: the answer for every input, and every byte of every buffer. Parameters are those of the functions that C
+// calls, one by one, and a type, a session and an outcome are C's numbers.
 // Uses the refusals of outcomes, the page of marks, records and signatures.
 // The promises, the checking program and the library for C and C++ use it.
 
@@ -16,13 +17,13 @@ ghost use Rattle.operations.specs.Sign.{sign_refusals, sign_end, sign_of};
 use outcomes::Refusal;
 use records::SecretKey;
 
-// What checking answers. A later request adds a count of steps.
+// What checking answers. A struct of its own: a later request adds a count of steps, and the promises of checking speak of it.
 #[derive(Clone, Copy)]
 pub struct Checked {
     pub outcome: u32,
 }
 
-// What making answers.
+// What making answers. A struct of its own, of which the promises of making speak.
 #[derive(Clone, Copy)]
 pub struct Made {
     pub outcome: u32,

@@ -1,4 +1,5 @@
 // What is promised of each operation: a function takes its arguments, calls it, and ensures the customer's sentence on what came back.
+// Parameters are those of the exported function, which C hands over one by one.
 // Uses the operations and the page of marks.
 // It is the door by which a reader comes in (docs/PROMISES.md); the shams use it.
 
@@ -271,7 +272,7 @@ pub enum Kind {
     Signing,
 }
 
-// What a call of a history answers.
+// What a call of a history answers, whichever operation it is: the structs for C that have the same fields keep their names.
 #[derive(Clone, Copy)]
 pub struct Answer {
     pub outcome: u32,
@@ -291,25 +292,20 @@ pub fn call(
 {
     match kind {
         Kind::Reserving => {
-            let a = marks::reserve(page, session);
-            Answer {
-                outcome: a.outcome,
-                session: a.session,
-            }
+            let Reserved {
+                outcome,
+                session,
+                ..
+            } = marks::reserve(page, session);
+            Answer { outcome, session }
         }
         Kind::Marking => {
-            let a = marks::mark(page, session);
-            Answer {
-                outcome: a.outcome,
-                session: a.session,
-            }
+            let Marked { outcome, session } = marks::mark(page, session);
+            Answer { outcome, session }
         }
         Kind::Signing => {
-            let a = operations::sign(secret, page, session, message, out);
-            Answer {
-                outcome: a.outcome,
-                session: a.session,
-            }
+            let Signed { outcome, session } = operations::sign(secret, page, session, message, out);
+            Answer { outcome, session }
         }
     }
 }
