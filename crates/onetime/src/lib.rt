@@ -121,7 +121,7 @@ pub fn ends_from(values: &[u8], s: Seed, a: Address, m: [u8; 32]) -> [[u8; 32]; 
     ends
 }
 
-// All that the secret values of one leaf need: the secret and the public seed, the leaf's one-time address, and the leaf's own seed, prepared.
+// All that the secret values of one leaf need: secret seed, public seed, the leaf's one-time address, and the leaf's own seed, prepared.
 #[derive(Clone, Copy)]
 pub struct Secrets {
     pub secret: [u8; 32],
