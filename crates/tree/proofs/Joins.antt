@@ -1,7 +1,7 @@
 -- Joins, leaves and roots from what the calls give.
 use mathlib.Core.Path.{◌≡◌, sym, ap, ap₂, ◌∙◌}
 use mathlib.Core.List.{List, [], ◌++◌}
-use Prim.Native.Nat.{ℕ, ◌+◌, ◌-◌, ◌*◌, ◌<◌, ◌≤◌}
+use Prim.Native.Nat.{ℕ, ◌*◌, ◌<◌, ◌≤◌}
 use native.Mathlib.Nat.{zero-add}
 use lib.ListN.{length, get_or, take, drop}
 use Rattle.lists.specs.Lists.{parts}
@@ -13,7 +13,7 @@ use Rattle.rfc8391.specs.Xmss.{ots_at, ltree_at, rand_hash, ltree, leaf_of}
 use Rattle.rfc8391.specs.House.{secrets}
 use Rattle.rfc8391.specs.declared.Address.{Address}
 use Rattle.rfc8391.proofs.Chains.{pk_ext}
-use Rattle.rfc8391.proofs.Values.{xor_front, value_at}
+use Rattle.rfc8391.proofs.Values.{xor_front}
 use Rattle.keyed.specs.Seeds.{suite_of, held, held_all, seed_of}
 use Rattle.keyed.specs.declared.Seed.{Seed}
 use Rattle.onetime.specs.Secrets.{value_of}
@@ -48,12 +48,14 @@ leaf_by t i x b ends r es ep ea ee eb er =
     ∙ ap₂ (λ (s : Seed) (c : Address). wots_pk (suite_of s) (seed_of s) c (value_of x)) ep ea
     ∙ pk_ext (suite_of t.seed) (seed_of t.seed) (ots_at t.at i) _ _ (value_is t i x es ep ea))
 
--- a node of a path, read at its place; w is how the code has n
-pub node_read : (n w h : ℕ) (path r : List ℕ) (k : ℕ) → w ≡ n → k < h → w * k + w ≤ length path
-    → take (length (take (w * k + w - w * k) (drop (w * k) path))) r ≡ take (w * k + w - w * k) (drop (w * k) path)
-    → take n r ≡ get_or (parts n h 0 path) k []
+-- node k of a path, which is split off as its next part; w is how the code has n
+pub node_read : (n w h : ℕ) (path part r : List ℕ) (k : ℕ) → w ≡ n → k < h → part ≡ take w (drop (w * k) path) → length part ≡ w
+    → take (length part) r ≡ part → take n r ≡ get_or (parts n h 0 path) k []
 unfolding parts
-node_read n w h path r k ew q l er =
-    value_at n w (w * k) path r ew l er
-    ∙ ap (λ (j : ℕ). take n (drop j path)) (ap (λ (v : ℕ). v * k) ew ∙ sym (zero-add (n * k)))
+node_read n w h path part r k ew q ep l er =
+    ap (λ (j : ℕ). take j r) (sym (l ∙ ew))
+    ∙ er
+    ∙ ep
+    ∙ ap (λ (v : ℕ). take v (drop (v * k) path)) ew
+    ∙ ap (λ (j : ℕ). take n (drop j path)) (sym (zero-add (n * k)))
     ∙ sym (get_or-tab h _ [] k q)

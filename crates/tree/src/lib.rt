@@ -163,14 +163,15 @@ fn root_from_path(
     ensures { held s result ≡ root_from_path (suite_of s) (seed_of s) a height index (held s start) (values_in s height path.now) }
 {
     let n = s.value_length();
+    let mut rest = path;
     let mut v = start;
     let mut position = index;
     for k in 0..height {
-        let at = n * (k as usize);
-        let node = rfc8391::value_of(&path[at..at + n]);
-        let next = climb_by(s, a, k, position, v, node);
+        let (node, after) = rest.split_at(n);
+        let next = climb_by(s, a, k, position, v, rfc8391::value_of(node));
         v = next;
         position /= 2;
+        rest = after;
     }
     v
 }

@@ -1,12 +1,13 @@
-use native.Mathlib.Nat.{div-one}
+use native.Mathlib.Nat.{div-one, mul-zero, mul-suc, le_refl}
 use native.Mathlib.Numerals.{add-one}
 use native.Mathlib.Omega.{arith}
 use mathlib.Core.List.{List, []}
-use lib.ListN.{length, get_or}
+use lib.ListN.{length, get_or, take, drop, length-drop}
+use lib.Seq.{drop-drop}
 use Prim.Native.Nat.{ℕ, ◌≤◌, ◌+◌, ◌*◌, ◌/◌}
-use mathlib.Core.Path.{◌≡◌, sym, ◌∙◌, ap, ap₂}
+use mathlib.Core.Path.{◌≡◌, refl, sym, ◌∙◌, ap, ap₂}
 use Rattle.tree.proofs.Joins.{node_read}
-use borrow.Author.Rules.{rules}
+use Rattle.lists.proofs.Flats.{value_within}
 use Rattle.keyed.specs.Seeds.{suite_of, held, seed_of}
 use Rattle.rfc8391.proofs.Trees.{half_position}
 use Rattle.rfc8391.specs.Xmss.{climb, root_from_path}
@@ -16,20 +17,29 @@ use Rattle.tree.proofs.root_from_path.Goals as goal
 
 pub loop-k-init : goal.loop-k-init
 unfolding root_from_path
-loop-k-init c = (turns_start _ _, sym (div-one _))
+loop-k-init c = (turns_start _ _, sym (div-one _), rw mul-zero refl)
+
+pub split_at-requires : goal.split_at-requires
+split_at-requires c =
+    let S = suite_of c.args.s in
+    let n = c.value_length-n in
+    let h : n.result * c.loop-k.k + n.result ≤ length c.args.path.now =
+    value_within S.n _ c.args.height c.loop-k.k _ n.ensures.0 (omega arith) (rw c.requires (le_refl (S.n * c.args.height))) in
+    rw (c.loop-k.invariant.2, length-drop) (omega (arith, h))
 
 pub loop-k-preserved : goal.loop-k-preserved
 unfolding root_from_path
 loop-k-preserved c =
     let l = c.loop-k in
-    let w = c.value_length-n in
+    let n = c.value_length-n in
     let a = c.args in
     let S = suite_of a.s in
-    let path = parts S.n a.height 0 a.path.now in
-    let within : w.result * l.k + w.result ≤ length a.path.now = search rules in
-    let x : held a.s c.value_of-node.result ≡ get_or path l.k [] =
-    node_read S.n w.result a.height a.path.now _ l.k w.ensures.0 (omega arith) within c.value_of-node.ensures in (
+    let p = c.split_at in
+    let e : p.result.0.now ≡ take n.result (drop (n.result * l.k) a.path.now) = p.ensures.front ∙ ap (take n.result) l.invariant.2 in
+    let x : held a.s c.value_of.result ≡ get_or (parts S.n a.height 0 a.path.now) l.k [] =
+    node_read S.n n.result a.height a.path.now _ _ l.k n.ensures.0 (omega arith) e p.ensures.front_len c.value_of.ensures in (
       turns_more _ _ _ l.invariant.0
-          (c.climb_by-next.ensures ∙ ap₂ (λ (p : ℕ) (y : List ℕ). climb S (seed_of a.s) a.a l.k p (held a.s l.v) y) l.invariant.1 x),
-      rw add-one (ap (λ (p : ℕ). p / 2) l.invariant.1 ∙ half_position a.index l.k),
+          (c.climb_by-next.ensures ∙ ap₂ (λ (q : ℕ) (y : List ℕ). climb S (seed_of a.s) a.a l.k q (held a.s l.v) y) l.invariant.1 x),
+      rw add-one (ap (λ (q : ℕ). q / 2) l.invariant.1 ∙ half_position a.index l.k),
+      rw (p.ensures.back, l.invariant.2, drop-drop, add-one, mul-suc) refl,
     )

@@ -1,5 +1,6 @@
 -- After k turns of the loop, k nodes of the path are used.
-use Prim.Native.Nat.{◌/◌, ◌^◌}
+use Prim.Native.Nat.{◌*◌, ◌/◌, ◌^◌}
+use lib.ListN.{drop}
 use mathlib.Core.Path.{◌≡◌}
 use Rattle.keyed.specs.Seeds.{suite_of, held, seed_of}
 use Rattle.rfc8391.specs.Xmss.{root_from_path}
@@ -11,3 +12,4 @@ invariant-loop-k l =
     let S = suite_of l.s in
     (held l.s l.v ≡ root_from_path S (seed_of l.s) l.a l.k l.index (held l.s l.initial.v) (parts S.n l.height 0 l.path))
     × (l.position ≡ l.index / 2 ^ l.k)
+    × (l.rest ≡ drop (l.n * l.k) l.path)
