@@ -1,6 +1,7 @@
 // The page of marks: which indices of a key are used, the next one reserved, and its mark stored before signing.
 // Uses the numbered outcomes and the laws of lists.
-// Signing counts marks by it; reserving and marking are exported as they are: a session is C's number, 0 or the pending index plus one.
+// Signing counts marks by it; reserving and marking are exported as they are: outcomes are C's numbers, and so are sessions, 0 or the
+// pending index plus one.
 
 #![tactic(auto)]
 
@@ -35,7 +36,7 @@ fn byte_marks(b: u8) -> Option<u32>
     ensures { result ≡ byte_count b }
 {
     let z = b.leading_zeros();
-    if b as u32 == 255u32 >> z {
+    if u32::from(b) == 255 >> z {
         Some(z)
     } else {
         None

@@ -128,7 +128,7 @@ fn accept(key: &[u8], message: &[u8], signature: &[u8]) -> Result<(), Refusal>
         return Err(Refusal::InputLength);
     }
     let kind = rfc8391::key_type(lists::big_endian(key, 0)).ok_or(Refusal::TypeNotServed)?;
-    if signature.len() != kind.length as usize {
+    if signature.len() != kind.length {
         return Err(Refusal::SignatureLength);
     }
     if 65536 < message.len() {

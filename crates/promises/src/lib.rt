@@ -1,5 +1,6 @@
 // What is promised of each operation: a function takes its arguments, calls it, and ensures the customer's sentence on what came back.
-// Parameters are those of the exported function, which C hands over one by one.
+// Functions that make the same call differ in what they promise, and docs/PROMISES.md lists each by its name. Parameters are those of the
+// exported function, which C hands over one by one.
 // Uses the operations and the page of marks.
 // It is the door by which a reader comes in (docs/PROMISES.md); the shams use it.
 

@@ -143,7 +143,7 @@ pub enum Hash {
 pub struct KeyType {
     pub hash: Hash,
     pub height: u32,
-    pub length: u32,
+    pub length: usize,
 }
 
 // The type with a number, where we know one.
