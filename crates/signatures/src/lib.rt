@@ -38,6 +38,7 @@ fn write_values(out: &mut [u8], x: Secrets, m: [u8; 32])
 {
     let n = x.seed.value_length();
     let d = onetime::digits_of(m, 2 * n);
+    // By places, and not by `chunks_exact_mut`: what such parts are written is not known of the buffer once the loop is over.
     for c in 0..2 * n + 3 {
         let k = c as u32;
         let at = n * c;

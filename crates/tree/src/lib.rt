@@ -131,6 +131,7 @@ impl Tree {
         ensures { out.new ≡ flat (auth_path (suite_of self.seed) (seed_of self.seed) self.at (leaves self) height index) }
     {
         let n = self.seed.value_length();
+        // By places, and not by `chunks_exact_mut`: what such parts are written is not known of the buffer once the loop is over.
         for k in 0..height {
             let at = n * (k as usize);
             let other = self.node(k, (index >> k) ^ 1);
