@@ -14,6 +14,7 @@ ghost use Rattle.keyed.specs.Suites.{suite};
 ghost use Rattle.keyed.specs.Held.{held_by};
 
 use rfc8391::Hash;
+use sha2::Function;
 use sha256::State;
 
 mod sha2;
@@ -74,7 +75,7 @@ impl Seed {
     pub fn prepare(hash: Hash, bytes: [u8; 32]) -> Self
         ensures { (result.bytes ≡ bytes) × (result.hash ≡ hash) }
     {
-        let mid = sha2::keyed_by(3, bytes);
+        let mid = sha2::keyed_by(Function::Prf, bytes);
         Seed { hash, bytes, mid }
     }
 
