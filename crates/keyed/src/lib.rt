@@ -13,7 +13,7 @@ ghost use Rattle.sha256.specs.Sha256.{H₀, hashed};
 ghost use Rattle.keyed.specs.Suites.{suite};
 ghost use Rattle.keyed.specs.Held.{held_by};
 
-use rfc8391::Hash;
+use rfc8391::{Address, Hash};
 use sha2::Function;
 use sha256::State;
 
@@ -70,6 +70,7 @@ pub struct Seed {
 }
 
 impl Seed {
+    ghost use Rattle.rfc8391.specs.Wots.{prf_at};
     ghost use Rattle.keyed.specs.Seeds.{suite_of, held, seed_of};
 
     pub fn prepare(hash: Hash, bytes: [u8; 32]) -> Self
@@ -99,5 +100,12 @@ impl Seed {
         match self.hash {
             Hash::Sha2 => sha256::finish_half(self.mid, 1, input),
         }
+    }
+
+    // A key or a mask: PRF over an address.
+    pub fn prf_at(self, a: Address) -> [u8; 32]
+        ensures { held self result ≡ prf_at (suite_of self) (seed_of self) a }
+    {
+        self.prf(a.encode())
     }
 }

@@ -61,8 +61,8 @@ fn chain_step(s: Seed, a: Address, j: u32, x: [u8; 32]) -> [u8; 32]
     ensures { held s result ≡ step (suite_of s) (seed_of s) a j (held s x) }
 {
     let at = a.set_hash_address(j);
-    let key = s.prf(at.set_key_and_mask(0).encode());
-    let mask = s.prf(at.set_key_and_mask(1).encode());
+    let key = s.prf_at(at.for_key());
+    let mask = s.prf_at(at.for_mask());
     keyed::f(s.hash, key, rfc8391::xored(x, mask))
 }
 

@@ -93,6 +93,25 @@ impl Address {
         self
     }
 
+    // The address from which a key is derived, and those of the mask and of the right one of two.
+    pub fn for_key(self) -> Self
+        ensures { result ≡ set_key_and_mask self 0 }
+    {
+        self.set_key_and_mask(0)
+    }
+
+    pub fn for_mask(self) -> Self
+        ensures { result ≡ set_key_and_mask self 1 }
+    {
+        self.set_key_and_mask(1)
+    }
+
+    pub fn for_right_mask(self) -> Self
+        ensures { result ≡ set_key_and_mask self 2 }
+    {
+        self.set_key_and_mask(2)
+    }
+
     // The chains of a leaf.
     pub fn ots_at(self, leaf: u32) -> Self
         ensures { result ≡ ots_at self leaf }

@@ -21,9 +21,9 @@ use rfc8391::{Address, Hash};
 fn join(s: Seed, a: Address, left: [u8; 32], right: [u8; 32]) -> [u8; 32]
     ensures { held s result ≡ rand_hash (suite_of s) (seed_of s) a (held s left) (held s right) }
 {
-    let key = s.prf(a.set_key_and_mask(0).encode());
-    let left_mask = s.prf(a.set_key_and_mask(1).encode());
-    let right_mask = s.prf(a.set_key_and_mask(2).encode());
+    let key = s.prf_at(a.for_key());
+    let left_mask = s.prf_at(a.for_mask());
+    let right_mask = s.prf_at(a.for_right_mask());
     keyed::h(
         s.hash,
         key,
