@@ -259,15 +259,16 @@ fn bit_length(n: usize) -> [u8; 8]
     n.wrapping_mul(8).to_be_bytes()
 }
 
-// The last block or two of a padded message, of which the bytes m are left; the bit length stands behind `size` bytes.
-fn ending(m: &[u8], size: usize, bits: [u8; 8]) -> [u8; 128]
-    requires { (length m.now < size) × (size ≤ 120) }
-    ensures { take (size + 8) result ≡ m.now ++ (0x80 ∷ (replicate (size - length m.now - 1) 0 ++ bits)) }
+// The last block or two of a padded message, of which the bytes m are left.
+fn ending<const N: usize>(m: &[u8], bits: [u8; 8]) -> [u8; N]
+    requires { length m.now + 9 ≤ N }
+    ensures { result ≡ m.now ++ (0x80 ∷ (replicate (N - 9 - length m.now) 0 ++ bits)) }
 {
-    let mut p = [0u8; 128];
-    p[..m.len()].copy_from_slice(m);
-    p[m.len()] = 0x80;
-    p[size..size + 8].copy_from_slice(&bits);
+    let mut p = [0u8; N];
+    let out = &mut p[..];
+    out[..m.len()].copy_from_slice(m);
+    out[m.len()] = 0x80;
+    out[N - 8..].copy_from_slice(&bits);
     p
 }
 
@@ -285,10 +286,10 @@ pub fn finish(s: State, before: u32, m: &[u8]) -> [u8; 32]
     let (_, rest) = m.as_chunks::<64>();
     let bits = bit_length((64 * (before as usize)).wrapping_add(m.len()));
     if rest.len() < 56 {
-        let p = ending(rest, 56, bits);
-        digest_of(absorb(v, &p[..64]))
+        let p = ending::<64>(rest, bits);
+        digest_of(absorb(v, &p))
     } else {
-        let p = ending(rest, 120, bits);
+        let p = ending::<128>(rest, bits);
         digest_of(absorb(v, &p))
     }
 }
@@ -303,21 +304,11 @@ pub fn joined(a: [u8; 32], b: [u8; 32]) -> [u8; 64]
     m
 }
 
-// What pads a message of `before` blocks and a half.
-fn half_padding(before: u32) -> [u8; 32]
-    ensures { result ≡ padding (64 * before + 32) }
-{
-    let mut p = [0u8; 32];
-    p[0] = 0x80;
-    p[24..].copy_from_slice(&bit_length(64 * (before as usize) + 32));
-    p
-}
-
-// What finish gives where half a block is left, as chain steps and addresses end: with its padding it is one block.
+// What finish gives where half a block is left, as chain steps and addresses end: with its ending it is one block.
 pub fn finish_half(s: State, before: u32, m: [u8; 32]) -> [u8; 32]
     ensures { result ≡ finished s before m }
 {
-    let last = joined(m, half_padding(before));
+    let last = ending::<64>(&m, bit_length(64 * (before as usize) + 32));
     digest_of(absorb(s, &last))
 }
 
