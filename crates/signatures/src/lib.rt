@@ -8,7 +8,7 @@ ghost use Rattle.std.specs.Prelude.{◌≡◌, ◌++◌, ◌*◌, ◌<◌, ◌�
 ghost use Rattle.lists.specs.Lists.{flat};
 ghost use Rattle.lists.specs.Bytes.{to_byte};
 ghost use Rattle.rfc8391.specs.Wots.{len, wots_sign};
-ghost use Rattle.rfc8391.specs.Formats.{value_length, key_length, path_start, signature_length, signature_bytes};
+ghost use Rattle.rfc8391.specs.Formats.{value_length, key_length, signature_length, signature_bytes};
 ghost use Rattle.keyed.specs.Sha2.{sha2};
 ghost use Rattle.keyed.specs.Seeds.{suite_of, held, seed_of};
 ghost use Rattle.onetime.specs.Secrets.{value_of};
@@ -27,8 +27,9 @@ fn write_head(out: &mut [u8], index: u32, r: [u8; 32])
     requires { length out.old ≡ 36 }
     ensures { out.new ≡ to_byte index 4 ++ r }
 {
-    lists::write_number(&mut out[0..4], index);
-    out[4..36].copy_from_slice(&r);
+    let (number, value) = out.split_at_mut(4);
+    lists::write_number(number, index);
+    value.copy_from_slice(&r);
 }
 
 // The chain values of the value m, by a leaf's secret values: each walk gets the part alone that it writes.
@@ -59,7 +60,7 @@ fn randomiser(prfkey: [u8; 32], index: u32) -> [u8; 32]
     Seed::prepare(Hash::Sha2, prfkey).prf(rfc8391::to_bytes(index))
 }
 
-// The signature of a message by an index, with what a secret record holds. Keys of type 1 alone sign.
+// The signature of a message by an index, with what a secret record holds. Keys of type 1 alone sign: their trees have height 10.
 pub fn write_signature(secret: &[u8], index: u32, message: &[u8], out: &mut [u8])
     requires { (length secret.now ≡ 132) × (index < 1024) × (length out.old ≡ 2500) }
     ensures { out.new ≡ signature_bytes (signed_by sha2 (record_from 32 secret.now) index message.now) }
@@ -68,17 +69,12 @@ pub fn write_signature(secret: &[u8], index: u32, message: &[u8], out: &mut [u8]
     let tree = Tree::single(Hash::Sha2, key.secret, key.public);
     let r = randomiser(key.prfkey, index);
     let m = keyed::message_digest(Hash::Sha2, r, key.root, index, message);
-    write_head(&mut out[0..36], index, r);
-    write_values(&mut out[36..2180], tree.secrets(index), m);
-    tree.write_path(&mut out[2180..2500], 10, index);
-}
-
-// Where a signature's path begins, behind the index, r and the chain values: at 2,180 where values have 32 bytes.
-fn path_start(n: usize) -> usize
-    requires { n ≤ 32 }
-    ensures { result ≡ path_start n }
-{
-    4 + n + n * (2 * n + 3)
+    let n = tree.seed.value_length();
+    let (head, rest) = out.split_at_mut(4 + n);
+    let (values, path) = rest.split_at_mut(n * (2 * n + 3));
+    write_head(head, index, r);
+    write_values(values, tree.secrets(index), m);
+    tree.write_path(path, 10, index);
 }
 
 // The root to which a signature of a message leads, by the hash and the height of the key's type.
@@ -96,19 +92,26 @@ pub fn recomputed_root(
         ≡ recomputed hash height key.now message.now signature.now }
 {
     let n = keyed::value_length(hash);
-    let path = path_start(n);
-    let root = rfc8391::value_of(&key[4..4 + n]);
-    let seed = Seed::prepare(hash, rfc8391::value_of(&key[4 + n..4 + n + n]));
-    let r = rfc8391::value_of(&signature[4..4 + n]);
+    // A key's type and a signature's index have four bytes.
+    let (root, seed) = key[4..].split_at(n);
+    let (r, rest) = signature[4..].split_at(n);
+    let (values, path) = rest.split_at(n * (2 * n + 3));
+    let seed = Seed::prepare(hash, rfc8391::value_of(seed));
     let index = lists::big_endian(signature, 0);
-    let digest = keyed::message_digest(seed.hash, r, root, index, message);
+    let digest = keyed::message_digest(
+        hash,
+        rfc8391::value_of(r),
+        rfc8391::value_of(root),
+        index,
+        message,
+    );
     tree::root_from_signature(
         seed,
         Address::single_tree(),
         height,
         index,
-        &signature[4 + n..path],
-        &signature[path..],
+        values,
+        path,
         digest,
     )
 }
