@@ -30,12 +30,12 @@ impl SecretKey {
         requires { length material.now ≡ 96 }
         ensures { contents result ≡ made_record sha2 material.now }
     {
-        let secret = rfc8391::value_of(&material[0..32]);
-        let public = rfc8391::value_of(&material[64..96]);
+        let (values, _) = material.as_chunks::<32>();
+        let (secret, prfkey, public) = (values[0], values[1], values[2]);
         Self {
             kind: 1,
             secret,
-            prfkey: rfc8391::value_of(&material[32..64]),
+            prfkey,
             public,
             root: Tree::single(Hash::Sha2, secret, public).node(10, 0),
         }
@@ -46,12 +46,13 @@ impl SecretKey {
         requires { length bytes.now ≡ 132 }
         ensures { contents result ≡ record_from 32 bytes.now }
     {
+        let (values, _) = bytes[4..].as_chunks::<32>();
         Self {
             kind: lists::big_endian(bytes, 0),
-            secret: rfc8391::value_of(&bytes[4..36]),
-            prfkey: rfc8391::value_of(&bytes[36..68]),
-            public: rfc8391::value_of(&bytes[68..100]),
-            root: rfc8391::value_of(&bytes[100..132]),
+            secret: values[0],
+            prfkey: values[1],
+            public: values[2],
+            root: values[3],
         }
     }
 
@@ -59,11 +60,9 @@ impl SecretKey {
         requires { length out.old ≡ 132 }
         ensures { out.new ≡ record_bytes (contents self.now) }
     {
-        lists::write_number(&mut out[0..4], self.kind);
-        out[4..36].copy_from_slice(&self.secret);
-        out[36..68].copy_from_slice(&self.prfkey);
-        out[68..100].copy_from_slice(&self.public);
-        out[100..132].copy_from_slice(&self.root);
+        let (kind, values) = out.split_at_mut(4);
+        lists::write_number(kind, self.kind);
+        values.copy_from_slice([self.secret, self.prfkey, self.public, self.root].as_flattened());
     }
 }
 
@@ -71,7 +70,7 @@ pub fn write_key(out: &mut [u8], root: [u8; 32], public: [u8; 32])
     requires { length out.old ≡ 68 }
     ensures { out.new ≡ to_byte 1 4 ++ (root ++ public) }
 {
-    lists::write_number(&mut out[0..4], 1);
-    out[4..36].copy_from_slice(&root);
-    out[36..68].copy_from_slice(&public);
+    let (kind, values) = out.split_at_mut(4);
+    lists::write_number(kind, 1);
+    values.copy_from_slice([root, public].as_flattened());
 }

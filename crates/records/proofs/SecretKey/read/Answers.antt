@@ -1,6 +1,8 @@
--- The record's values, read at their places.
-use Rattle.std.proofs.Common.{arith, ◌≡◌, take, drop}
-use Rattle.rfc8391.proofs.Values.{whole_at}
+-- The record's values are the four chunks behind its type.
+use Rattle.std.proofs.Common.{arith, ◌≡◌, ◌-◌, refl, take, drop, length}
+use lib.ListN.{length-drop}
+use lib.Seq.{drop-drop, take_all}
+use Rattle.std.specs.Simd.{first_chunks}
 use Rattle.records.specs.Records.{record_from}
 use Rattle.records.proofs.SecretKey.read.Goals as goal
 
@@ -8,8 +10,7 @@ pub returns : goal.returns
 unfolding record_from
 returns c =
     let b = c.args.bytes.now in
-    let secret : c.value_of.result ≡ take 32 (drop 4 b) = whole_at 32 4 b _ (omega arith) c.value_of.type_inv.1.0.1 c.value_of.ensures in
-    let prfkey : c.value_of-2.result ≡ take 32 (drop 36 b) = whole_at 32 36 b _ (omega arith) c.value_of-2.type_inv.1.0.1 c.value_of-2.ensures in
-    let public : c.value_of-3.result ≡ take 32 (drop 68 b) = whole_at 32 68 b _ (omega arith) c.value_of-3.type_inv.1.0.1 c.value_of-3.ensures in
-    let root : c.value_of-4.result ≡ take 32 (drop 100 b) = whole_at 32 100 b _ (omega arith) c.value_of-4.type_inv.1.0.1 c.value_of-4.ensures in
-    cc
+    let l : length (drop 4 b) ≡ 128 = rw length-drop (omega arith) in
+    let r : take (length b - 4) (drop 4 b) ≡ drop 4 b = take_all (length b - 4) (drop 4 b) (omega arith) in
+    let v : c.as_chunks.result.0.now ≡ first_chunks 32 4 (drop 4 b) = rw (r, l) at c.as_chunks.ensures.front in
+    rw (v, drop-drop, drop-drop, drop-drop, c.big_endian.ensures) refl
