@@ -33,13 +33,13 @@ fn write_digits(out: &mut [u8], x: &[u8])
 }
 
 // How much the digits leave of 15 each.
-fn checksum_of(digits: &[u8]) -> u32
+fn checksum_of(digits: &[u8]) -> u16
     requires { ((i : ℕ) → get_or digits.now i 0 ≤ 15) × (length digits.now ≤ 64) }
     ensures { (result ≡ checksum digits.now) × (result ≤ 960) }
 {
     let mut sum = 0;
     for d in digits {
-        sum += u32::from(15 - *d);
+        sum += u16::from(15 - *d);
     }
     sum
 }
@@ -52,7 +52,7 @@ pub fn digits_of(m: [u8; 32], k: usize) -> [u8; 67]
     let mut out = [0u8; 67];
     write_digits(&mut out[..k], &m);
     let shifted = checksum_of(&out[..k]) * 16;
-    write_digits(&mut out[k..k + 3], &(shifted as u16).to_be_bytes());
+    write_digits(&mut out[k..k + 3], &shifted.to_be_bytes());
     out
 }
 
@@ -77,8 +77,8 @@ pub fn walk(s: Seed, a: Address, x: [u8; 32], from: u32, steps: u32) -> Walked
     ensures { held s result.value ≡ chain (suite_of s) (seed_of s) a (held s x) from steps }
 {
     let mut value = x;
-    for k in 0..steps {
-        let next = chain_step(s, a, from + k, value);
+    for j in from..from + steps {
+        let next = chain_step(s, a, j, value);
         value = next;
     }
     Walked { value }
