@@ -129,7 +129,7 @@ impl<'a> Model for State<'a> {
       session = session s.number s.begun (read s.line) (latest s.kept.key.text s.kept.message.text);
     } };
 
-    ghost invariant = { λ s. (length s.line.frame.now ≤ s.kept.key.room) × (length s.line.frame.now ≤ s.kept.message.room) };
+    ghost invariant = { λ s. (s.line.len ≤ length s.line.frame.now) × (length s.line.frame.now ≤ s.kept.key.room) × (length s.line.frame.now ≤ s.kept.message.room) };
 }
 
 impl<'a> State<'a> {
