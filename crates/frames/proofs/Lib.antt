@@ -1,2 +1,3 @@
 -- The laws of `frames`.
+pub mod Endings
 pub mod Sessions

@@ -1,17 +1,14 @@
--- Texts at the front of a buffer: ended by a byte, and followed by a text that was written behind them.
+-- Texts at the front of a buffer: copied there, written behind one that stands there, ended by a byte.
 use mathlib.Core.Path.{◌≡◌, sym, ap, ◌∙◌}
-use mathlib.Core.List.{List, [], ◌∷◌, ◌++◌}
+use mathlib.Core.List.{List, [], ◌∷◌, ◌++◌, append_assoc}
 use Prim.Native.Nat.{ℕ, ◌+◌, ◌≤◌, ◌<◌}
 use native.Mathlib.Numerals.{add-one}
-use lib.ListN.{length, take, set}
+use lib.ListN.{length, take, drop, set}
 use lib.Seq.{length-take-le, take-append_seam, take-append-add, take-append-le, take-suc-set}
 
--- behind a text of k bytes, where there is room, a byte is put
-pub with_last : (text rest : List ℕ) (k b : ℕ) → k ≡ length text → k < length (text ++ rest)
-    → take (k + 1) (set (text ++ rest) k b) ≡ text ++ (b ∷ [])
-with_last text rest k b e room =
-    let front : take k (text ++ rest) ≡ text = rw e (take-append_seam text rest) in
-    rw (add-one, take-suc-set (text ++ rest) k b room, front)
+-- what a copy leaves at the front
+pub copied : (n : ℕ) (p old new : List ℕ) → n ≡ length p → new ≡ p ++ drop (length p) old → take n new ≡ p
+copied n p old new e q = rw (q, e) (take-append_seam p (drop (length p) old))
 
 -- what was written to the part of a buffer from place at on
 pub written_behind : (out part rest : List ℕ) (at k : ℕ) → at ≤ length out → k ≤ length part
@@ -20,3 +17,15 @@ written_behind out part rest at k h l =
     ap (λ (n : ℕ). take (n + k) (take at out ++ (part ++ rest))) (sym (length-take-le at out h))
     ∙ take-append-add (take at out) (part ++ rest) k
     ∙ ap (λ (z : List ℕ). take at out ++ z) (take-append-le k part rest l)
+
+-- behind a text, where there is room, a byte is put
+pub then_byte : (all text : List ℕ) (n b : ℕ) → take n all ≡ text → n < length all → take (n + 1) (set all n b) ≡ text ++ (b ∷ [])
+then_byte all text n b e room = rw (add-one, take-suc-set all n b room, e)
+
+-- behind a text p that was written from place at on
+pub with_last : (out ys rest p : List ℕ) (at k b : ℕ) → at ≤ length out → take k ys ≡ p → k ≤ length ys
+    → at + k < length (take at out ++ (ys ++ rest))
+    → take (at + k + 1) (set (take at out ++ (ys ++ rest)) (at + k) b) ≡ take at out ++ (p ++ (b ∷ []))
+with_last out ys rest p at k b h e l room =
+    let stands = written_behind out ys rest at k h l ∙ ap (λ (z : List ℕ). take at out ++ z) e in
+    then_byte (take at out ++ (ys ++ rest)) (take at out ++ p) (at + k) b stands room ∙ append_assoc (take at out) p (b ∷ [])

@@ -3,7 +3,7 @@ use mathlib.Core.Path.{◌≡◌, refl, sym, ap, ◌∙◌}
 use mathlib.Core.Bool.{true≢false}
 use mathlib.Core.List.{List}
 use mathlib.Core.Logic.{◌⊎◌, ⊎_elim}
-use Rattle.std.specs.Prelude.{Some, None}
+use Rattle.std.specs.Prelude.{Option, Some, None}
 use Prim.Native.Nat.{ℕ, ◌+◌, ◌-◌, ◌*◌, ◌/◌, ◌^◌, ◌≤◌, ◌<◌, min}
 use native.Mathlib.Decide.{ℕ_discrete, dec_le}
 use native.Mathlib.Omega.{arith}
@@ -20,6 +20,11 @@ use Rattle.marks.proofs.Tests.{ltb_same}
 use Rattle.marks.proofs.Marks.{marks_are, first_used}
 use Rattle.marks.proofs.Bytes.{bits_are, leading_is}
 use Rattle.marks.proofs.Pages.{mark_at, page_at, page_is}
+
+-- a tally that is no count
+pub tally_other : {A : Type 0} (t : Option A) → ((x : A) → t ≡ Some x → ⊥) → t ≡ None
+tally_other (Some x) f = absurd (f x refl)
+tally_other None f = refl
 
 -- a tally tells its count, and whether what was counted is in order
 module _ {A : Type 0} (n : ℕ) where

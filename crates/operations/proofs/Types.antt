@@ -7,10 +7,15 @@ use native.Mathlib.Omega.{arith}
 use lib.Dec.{eqb}
 use borrow.Author.Tests.{ne_eqb}
 use Rattle.lists.specs.Lists.{pick}
+use Rattle.marks.proofs.Counting.{tally_other}
 use Rattle.rfc8391.specs.Formats.{value_length, key_length, served, key_type, hash_of, height_of, path_start, signature_length}
 use Rattle.rfc8391.specs.declared.Hash.{Hash}
 use Rattle.rfc8391.specs.declared.Hash.TheVariants.{Sha2}
 use Rattle.rfc8391.specs.declared.KeyType.{KeyType}
+
+-- a type that is not served
+pub type_other : (t : Option KeyType) → ((k : KeyType) → t ≡ Some k → ⊥) → t ≡ None
+type_other t f = tally_other t f
 
 -- no number but 1, 2 and 3 is a type
 pub no_type : (t : ℕ) → (t ≡ 1 → ⊥) → (t ≡ 2 → ⊥) → (t ≡ 3 → ⊥) → key_type t ≡ None

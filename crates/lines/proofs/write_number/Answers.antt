@@ -1,7 +1,7 @@
 -- The digits are copied to the front, by the law of decimal text, and the last byte is put behind them.
-use Rattle.std.proofs.Common.{◌≡◌, ℕ, ◌≤◌, length, take, sym, ap, ◌∙◌, arith}
+use Rattle.std.proofs.Common.{◌≡◌, List, ◌++◌, ℕ, ◌≤◌, length, take, drop, sym, ap, ◌∙◌, arith}
 use Rattle.lines.proofs.Decimals.{decimal_is, decimal_le}
-use Rattle.lines.proofs.Buffers.{with_last}
+use Rattle.lines.proofs.Buffers.{copied, then_byte}
 use Rattle.lines.proofs.write_number.Goals as goal
 
 pub returns : goal.returns
@@ -10,11 +10,15 @@ returns c =
     let k : ℕ = d.result in
     let most : k ≤ 20 = decimal_le _ _ c.ranges.n.fits d.ensures.len in
     let copy = c.copy_from_slice in
-    let same : copy.new.self ≡ take k d.new.out = copy.ensures.after in
-    let long : k ≡ length copy.new.self = d.ensures.in_bounds.1 ∙ sym (ap length same) in
+    let text : List ℕ = copy.new.self in
+    let old : List ℕ = c.args.out.now in
+    let same : text ≡ take k d.new.out = copy.ensures.after in
+    let long : k ≡ length text = d.ensures.in_bounds.1 ∙ sym (ap length same) in
     record {
       out_after =
-          with_last copy.new.self _ k c.args.last long (omega arith)
-          ∙ rw (same, d.ensures.digits, decimal_is _ k c.ranges.n.fits d.ensures.len);
+          then_byte _ _ k c.args.last
+          (copied k text old (text ++ drop k old) long (ap (λ (n : ℕ). text ++ drop n old) long)
+          ∙ same ∙ d.ensures.digits ∙ decimal_is _ k c.ranges.n.fits d.ensures.len)
+          (omega arith);
       upper_bound = omega arith;
     }
