@@ -81,23 +81,16 @@ impl<'a> Latest<'a> {
             ≡ answer (latest self.old.key.text self.old.message.text) n (option_copied line.entry) }
         ensures room { (self.new.key.room ≡ self.old.key.room) × (self.new.message.room ≡ self.old.message.room) }
     {
-        let Some(frame) = line else {
-            return Some(NO_FRAME);
-        };
-        let [kind, rest @ ..] = frame else {
-            return Some(NO_FRAME);
-        };
-        // The kinds are told apart here alone: an enum of them would be one more match.
-        match kind {
-            1 => {
+        match line {
+            Some([1, rest @ ..]) => {
                 self.key.set(rest);
                 None
             }
-            2 => {
+            Some([2, rest @ ..]) => {
                 self.message.set(rest);
                 None
             }
-            3 => {
+            Some([3, rest @ ..]) => {
                 let checked = operations::check(self.key.as_slice(), self.message.as_slice(), rest);
                 Some(checked.outcome)
             }
