@@ -99,8 +99,8 @@ impl<'a> Latest<'a> {
     }
 }
 
-// The run so far: the line so far, whether one has begun, how many ended, and what they left. There is no Option of a line,
-// because the line's buffer stays here between two lines.
+// The run so far: the line so far, whether one has begun, how many ended, and what they left. `begun` is a field beside the
+// line, as in the definition's `Session`: the line's buffer stays here between two lines.
 #[derive(Drop)]
 pub struct State<'a> {
     pub line: Line<'a>,
@@ -143,38 +143,47 @@ impl<'a> State<'a> {
         }
     }
 
-    // The end of a line, with its output.
+    // The end of a line, with what is told of it.
     #[tactic(auto, unfolding(lines::specs::Reading::closed))]
-    fn close_line(&mut self, out: &mut [u8]) -> usize
-        requires in_bounds { (42 ≤ length out.old) × (self.old.session.number + 1 < 2 ^ 64) }
-        ensures result_after { stepped self.new.session (take result out.new) ≡ closed answer self.old.session }
+    fn close_line(&mut self) -> Option<u32>
+        requires few { self.old.session.number + 1 < 2 ^ 64 }
+        ensures result_after { stepped self.new.session (says self.new.session.number result) ≡ closed answer self.old.session }
         ensures frame { self.new.frame ≡ self.old.frame }
-        ensures n_bound { (result ≤ 42) × (self.new.session.number ≤ self.old.session.number + 1) }
+        ensures n_bound { self.new.session.number ≤ self.old.session.number + 1 }
     {
         let told = self.kept.answer(self.line.held());
         self.line.clear();
         self.begun = false;
         self.number += 1;
+        told
+    }
+
+    // One character of the input, with what is told of a line that it ends.
+    #[tactic(auto, unfolding(lines::specs::Reading::char_step))]
+    fn advance(&mut self, c: u8) -> Option<u32>
+        requires few { self.old.session.number + 1 < 2 ^ 64 }
+        ensures result_after { stepped self.new.session (says self.new.session.number result) ≡ char_step (length self.old.frame) answer self.old.session c }
+        ensures frame { length self.new.frame ≡ length self.old.frame }
+        ensures n_bound { self.new.session.number ≤ self.old.session.number + 1 }
+    {
+        if c == b'\n' {
+            return self.close_line();
+        }
+        self.line.put(c);
+        self.begun = true;
+        None
+    }
+
+    // Puts what is told of the line that ended last at the front of out.
+    fn write_told(&self, told: Option<u32>, out: &mut [u8]) -> usize
+        requires { 42 ≤ length out.old }
+        ensures out_after { take result out.new ≡ says self.now.session.number told }
+        ensures upper_bound { result ≤ 42 }
+    {
         match told {
             Some(outcome) => lines::write_two(out, self.number, u64::from(outcome)),
             None => 0,
         }
-    }
-
-    // One character of the input, with its output.
-    #[tactic(auto, unfolding(lines::specs::Reading::char_step))]
-    fn advance(&mut self, c: u8, out: &mut [u8]) -> usize
-        requires in_bounds { (42 ≤ length out.old) × (self.old.session.number + 1 < 2 ^ 64) }
-        ensures result_after { stepped self.new.session (take result out.new) ≡ char_step (length self.old.frame) answer self.old.session c }
-        ensures frame { length self.new.frame ≡ length self.old.frame }
-        ensures n_bound { (result ≤ 42) × (self.new.session.number ≤ self.old.session.number + 1) }
-    {
-        if c == b'\n' {
-            return self.close_line(out);
-        }
-        self.line.put(c);
-        self.begun = true;
-        0
     }
 
     // A chunk of the input, with all of its output from the start of out. A line of output has at most 42 bytes, and a
@@ -189,7 +198,8 @@ impl<'a> State<'a> {
     {
         let mut n = 0;
         for &c in chunk {
-            n += self.advance(c, &mut out[n..]);
+            let told = self.advance(c);
+            n += self.write_told(told, &mut out[n..]);
         }
         n
     }
@@ -203,7 +213,12 @@ impl<'a> State<'a> {
         ensures frame { self.new.frame ≡ self.old.frame }
         ensures n_in_bounds { result ≤ length out.old }
     {
-        if self.begun { self.close_line(out) } else { 0 }
+        if self.begun {
+            let told = self.close_line();
+            self.write_told(told, out)
+        } else {
+            0
+        }
     }
 }
 

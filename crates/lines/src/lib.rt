@@ -50,7 +50,8 @@ fn byte(high: Half, low: Half) -> u8
 }
 
 // The line so far: len bytes at the front of a buffer that the caller lends, a high half that waits for its low half, and
-// whether it can no longer be read. So a line of any length needs no more than the buffer.
+// whether it can no longer be read. So a line of any length needs no more than the buffer. `bad` is a field of its own: by
+// the definition `put_of` a line that went bad keeps its bytes and the half that waits.
 #[derive(Drop)]
 pub struct Line<'a> {
     pub frame: &'a mut [u8],
