@@ -7,6 +7,7 @@ use Rattle.lists.proofs.Tabs.{length-tab}
 use Rattle.rfc8391.specs.Suite.{Suite, Value, Values}
 use Rattle.rfc8391.specs.Wots.{wots_pk, wots_sign}
 use Rattle.rfc8391.specs.Xmss.{ots_at, ltree_at, message_digest, ltree, auth_path, root_from_path, root_from_sig, leaf_of, root_of, public_key_of, signature_with, signature_of, verify}
+use Rattle.rfc8391.specs.House.{secret_value}
 use Rattle.rfc8391.specs.declared.Address.{Address}
 use Rattle.rfc8391.proofs.Values.{tab_values}
 use Rattle.rfc8391.proofs.Chains.{pk_values, signature_leads_to_key}
@@ -14,6 +15,11 @@ use Rattle.rfc8391.proofs.Ltrees.{ltree_value}
 use Rattle.rfc8391.proofs.Trees.{node_value, path_leads_to_root}
 
 module _ (S : Suite) where
+  -- our rule gives values
+  pub secret_value_lem : (sk_seed seed : List ℕ) (a : Address) → Value S.n (secret_value S sk_seed seed a)
+  unfolding secret_value
+  secret_value_lem sk_seed seed a = S.PRF_value _ _
+
   pub digest_value : (r root : List ℕ) (i : ℕ) (m : List ℕ) → Value S.n (message_digest S r root i m)
   unfolding message_digest
   digest_value r root i m = S.Hmsg_value _ _
