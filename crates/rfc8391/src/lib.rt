@@ -1,4 +1,5 @@
-// RFC 8391's definitions over any hash suite and their laws, in specs/ and proofs/; here its small types: addresses, key types, values.
+// RFC 8391's definitions over any hash suite and their laws, in specs/ and proofs/; here its addresses and key types, and what is done with a
+// value, which is the first bytes of an array of 32.
 // Uses lists.
 // Everything above uses it.
 
@@ -11,7 +12,8 @@ ghost use Rattle.rfc8391.specs.Address.{set_type, set_ots_address, set_chain_add
 ghost use Rattle.rfc8391.specs.Xmss.{ots_at, ltree_at, tree_at};
 ghost use Rattle.rfc8391.specs.Formats.{key_type, single_tree};
 
-// Eight words. What w4, w5 and w6 mean is the type's to say, so that they have two names each below.
+// Eight words. What w4, w5 and w6 mean is the type's to say, so that they have two names each below: those of RFC 8391, section 2.5, which
+// its algorithms, our definitions and the contracts use.
 #[derive(Clone, Copy, Default)]
 pub struct Address {
     pub layer: u32,
@@ -112,7 +114,7 @@ impl Address {
         self.set_key_and_mask(2)
     }
 
-    // The chains of a leaf.
+    // The chains of a leaf. `ltree_at` differs by a number alone, but stands beside it: the contract of each names its own definition.
     pub fn ots_at(self, leaf: u32) -> Self
         ensures { result ≡ ots_at self leaf }
     {
