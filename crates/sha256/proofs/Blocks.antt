@@ -1,6 +1,6 @@
 -- A message's blocks, where the message comes in two parts.
 use Rattle.std.proofs.Common.{◌≡◌, ℕ, zero, suc, ◌+◌, ◌*◌, ◌/◌, ◌<◌, ◌≤◌, List, [], ◌++◌, length, get_or, take, drop, sym, refl, ap, ◌∙◌, append_assoc, add-zero, mul-zero, mul-suc, arith, length-append, length-drop, length-take-le, take-append-drop}
-use lib.Seq.{drop-drop}
+use lib.Seq.{drop-drop, get_or-take, get_or-drop}
 use Rattle.std.specs.Simd.{first_chunks}
 use Rattle.lists.specs.Lists.{turns}
 use Rattle.lists.proofs.Tabs.{tab_ext}
@@ -30,6 +30,11 @@ get_or-chunks w (suc n) zero m h = rw mul-zero
 get_or-chunks w (suc n) (suc i) m h =
     let e : w * suc i ≡ w + w * i = rw mul-suc (omega arith) in
     get_or-chunks w n i (drop w m) (omega arith) ∙ rw (drop-drop (w * i) w m, e)
+
+pub in_chunk : (w n i j : ℕ) (m : List ℕ) (cs : List (List ℕ)) (x : List ℕ) → cs ≡ first_chunks w n m → length cs ≡ n → i < length cs → j < w
+    → x ≡ get_or cs i [] → get_or x j 0 ≡ get_or m (w * i + j) 0
+in_chunk w n i j m cs x e l h q ex =
+    rw (ex, e, get_or-chunks w n i m (omega (arith, l, h)), get_or-take w (drop (w * i) m) j 0 q) (get_or-drop (w * i) m j 0)
 
 pub block_of_chunk : (m : List ℕ) (n i : ℕ) → i < n → 64 * n ≤ length m → block 0 (get_or (first_chunks 64 n m) i []) ≡ block i m
 block_of_chunk m n i h le =

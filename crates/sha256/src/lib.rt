@@ -183,22 +183,23 @@ fn one_round(s: State, k: u32, w: u32) -> State
 }
 
 // Four a turn, so that the variables change their roles: a loop of single rounds moves all eight words each time and is a sixth slower.
-fn four_rounds(v: State, k: &[u32; 64], w: &[u32; 64], t: usize) -> State
-    requires { t + 4 ≤ 64 }
-    ensures { result ≡ turns 4 (λ i x. round x (slice_index k.now (t + i)) (slice_index w.now (t + i))) v }
+fn four_rounds(v: State, k: &[u32; 4], w: &[u32; 4]) -> State
+    ensures { result ≡ turns 4 (λ i x. round x (slice_index k.now i) (slice_index w.now i)) v }
 {
-    let v1 = one_round(v, k[t], w[t]);
-    let v2 = one_round(v1, k[t + 1], w[t + 1]);
-    let v3 = one_round(v2, k[t + 2], w[t + 2]);
-    one_round(v3, k[t + 3], w[t + 3])
+    let v1 = one_round(v, k[0], w[0]);
+    let v2 = one_round(v1, k[1], w[1]);
+    let v3 = one_round(v2, k[2], w[2]);
+    one_round(v3, k[3], w[3])
 }
 
 fn all_rounds(s: State, w: [u32; 64]) -> State
     ensures { result ≡ rounds 64 s w }
 {
+    let (constants, _) = K.as_chunks::<4>();
+    let (words, _) = w.as_chunks::<4>();
     let mut v = s;
-    for i in 0..16 {
-        v = four_rounds(v, &K, &w, 4 * i);
+    for (k, four) in constants.iter().zip(words) {
+        v = four_rounds(v, k, four);
     }
     v
 }
