@@ -194,8 +194,8 @@ pub fn key_type(number: u32) -> Option<KeyType>
 pub fn xored(mut x: [u8; 32], y: [u8; 32]) -> [u8; 32]
     ensures { result ≡ xor 32 x y }
 {
-    for i in 0..32 {
-        x[i] ^= y[i];
+    for (i, b) in x.iter_mut().enumerate() {
+        *b ^= y[i];
     }
     x
 }
