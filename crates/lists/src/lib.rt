@@ -13,8 +13,8 @@ pub fn eight_words(words: [u32; 8]) -> [u8; 32]
     ensures { result ≡ flat (tab 8 (λ i. to_byte (slice_index words i) 4)) }
 {
     let mut out = [0u8; 32];
-    for i in 0..8 {
-        write_number(&mut out[4 * i..4 * i + 4], words[i]);
+    for (i, word) in words.iter().enumerate() {
+        write_number(&mut out[4 * i..4 * i + 4], *word);
     }
     out
 }

@@ -133,8 +133,8 @@ fn words_of(bytes: &[u8; 64]) -> [u32; 16]
     ensures { result ≡ block 0 bytes.now }
 {
     let mut w = [0u32; 16];
-    for j in 0..16 {
-        w[j] = lists::big_endian(bytes, 4 * j);
+    for (j, word) in w.iter_mut().enumerate() {
+        *word = lists::big_endian(bytes, 4 * j);
     }
     w
 }

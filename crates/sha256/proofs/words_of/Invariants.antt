@@ -5,4 +5,4 @@ use Rattle.lists.specs.Loops.{Filling}
 use Rattle.sha256.proofs.words_of.Given as goal
 
 abbrev pub invariant-loop-j : goal.invariant-loop-j
-invariant-loop-j l = Filling 16 (λ k. number l.bytes (4 * k) 4) l.w l.j
+invariant-loop-j l = Filling 16 (λ k. number l.bytes (4 * k) 4) l.word-items l.j
