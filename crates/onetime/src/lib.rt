@@ -1,7 +1,8 @@
 // WOTS+, the one-time scheme of RFC 8391: digits, chains, secret values by our rule.
 // Uses keyed and what lies below it.
 // The trees and the signatures use it.
-// A seed and an address stand side by side, as in RFC 8391's algorithms: the address is another at each call, so no struct holds both.
+// SEED and ADRS are two inputs of each algorithm of RFC 8391, and so of each function here. A struct of both would be no plainer: calls change
+// the address alone, and walk(s, a.set_chain_address(c), ..) would be walk(p.at(p.a.set_chain_address(c)), ..).
 
 #![tactic(auto)]
 
@@ -32,7 +33,8 @@ fn write_digits(out: &mut [u8], x: &[u8])
     }
 }
 
-// How much the digits leave of 15 each.
+// How much the digits leave of 15 each. That a digit is at most 15 is asked here and of each walk: a type of such digits would be taken apart
+// wherever one is used, as a number of steps. A loop, as the closure of `map(..).sum()` would have to know of each item that it is at most 15.
 fn checksum_of(digits: &[u8]) -> u16
     requires { ((i : ℕ) → get_or digits.now i 0 ≤ 15) × (length digits.now ≤ 64) }
     ensures { (result ≡ checksum digits.now) × (result ≤ 960) }
@@ -44,7 +46,8 @@ fn checksum_of(digits: &[u8]) -> u16
     sum
 }
 
-// How far the signer walks each chain for the value m: k digits of m, and three of their checksum.
+// How far the signer walks each chain for the value m: k digits of m, and three of their checksum. The array is as long as the longest,
+// since k goes with the suite of a seed, and an array's length cannot be computed from a const argument.
 pub fn digits_of(m: [u8; 32], k: usize) -> [u8; 67]
     requires { k ≤ 64 }
     ensures { take (k + 3) result ≡ digits k m }
@@ -72,6 +75,8 @@ pub struct Walked {
     pub value: [u8; 32],
 }
 
+// The steps from a position on, one after the other. `next` stands between, since the result of a call goes to a new variable where it is
+// an array: the borrow checker covers no other form yet.
 pub fn walk(s: Seed, a: Address, x: [u8; 32], from: u32, steps: u32) -> Walked
     requires { from + steps ≤ 15 }
     ensures { held s result.value ≡ chain (suite_of s) (seed_of s) a (held s x) from steps }
@@ -85,6 +90,7 @@ pub fn walk(s: Seed, a: Address, x: [u8; 32], from: u32, steps: u32) -> Walked
 }
 
 // A walk from a secret value that writes what it reaches into a lent part of a value's length.
+#[tactic(auto, using(keyed::proofs::Suites::seed_fits))]
 pub fn walk_into(out: &mut [u8], s: Seed, a: Address, x: [u8; 32], steps: u32) -> Walked
     requires { (length out.old ≡ (suite_of s).n) × (steps ≤ 15) }
     ensures { (held s result.value ≡ chain (suite_of s) (seed_of s) a (held s x) 0 steps) × (out.new ≡ held s result.value) }
@@ -95,6 +101,7 @@ pub fn walk_into(out: &mut [u8], s: Seed, a: Address, x: [u8; 32], steps: u32) -
 }
 
 // Walks on from a signature's value to the chain's end. The digit says how far the signer came.
+#[tactic(auto, using(keyed::proofs::Suites::seed_fits))]
 fn walk_on(part: &[u8], s: Seed, a: Address, digit: u32) -> Walked
     requires { (length part.now ≡ (suite_of s).n) × (digit ≤ 15) }
     ensures { held s result.value ≡ chain (suite_of s) (seed_of s) a part.now digit (15 - digit) }
@@ -102,14 +109,16 @@ fn walk_on(part: &[u8], s: Seed, a: Address, digit: u32) -> Walked
     walk(s, a, rfc8391::value_of(part), digit, 15 - digit)
 }
 
-// The chain ends to which the chain values of a signature lead, at the one-time address a. The loop of `Secrets::ends` is its like, but goes
-// over no values: a closure for the turns of both would need a contract of its own in both, and be longer than two loops.
+// The chain ends to which the chain values of a signature lead, at the one-time address a. How long the values are together goes with the
+// suite of the seed: a type of such slices would hold the seed too, so that it is asked, here and where they are handed on. The loop of
+// `Secrets::ends` is its like, but goes over no values: a closure for the turns of both would need a contract of its own in both.
 pub fn ends_from(values: &[u8], s: Seed, a: Address, m: [u8; 32]) -> [[u8; 32]; 67]
     requires { length values.now ≡ (suite_of s).n * len (suite_of s) }
     ensures { held_all s result ≡ wots_pk_from_sig (suite_of s) (seed_of s) a (held s m) (values_in s (len (suite_of s)) values.now) }
 {
     let n = s.value_length();
     let d = digits_of(m, 2 * n);
+    // Each value is split off: of a loop over `chunks_exact(n)` a proof knows the parts so far, and not that a part is the value of chain c.
     let mut rest = values;
     let mut ends = [[0u8; 32]; 67];
     for c in 0..2 * n + 3 {

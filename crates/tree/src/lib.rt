@@ -16,8 +16,8 @@ use keyed::Seed;
 use onetime::Secrets;
 use rfc8391::{Address, Hash};
 
-// Two values joined. The selector is set for each key and mask, so that none is left over. Seed and address stand side by side here and
-// below, as SEED and ADRS in each algorithm of RFC 8391: the address is another one at every call.
+// Two values joined. The selector is set for each key and mask, so that none is left over. Seed and address are two arguments here and
+// below, for the reason that onetime gives: calls change the address alone.
 fn join(s: Seed, a: Address, left: [u8; 32], right: [u8; 32]) -> [u8; 32]
     ensures { held s result ≡ rand_hash (suite_of s) (seed_of s) a (held s left) (held s right) }
 {
@@ -47,7 +47,8 @@ fn ltree_round(s: Seed, a: Address, height: u32, mut v: [[u8; 32]; 67], w: usize
     v
 }
 
-// The L-tree over the chain ends: rounds until one value is left.
+// The L-tree over the chain ends: rounds until one value is left. How many there are is not known before, so that the loop ends by the width
+// and counts them beside it. `next` is for the borrow checker, as in a walk of onetime.
 fn ltree_root(s: Seed, a: Address, ends: [[u8; 32]; 67]) -> [u8; 32]
     ensures { held s result ≡ ltree (suite_of s) (seed_of s) a (held_all s ends) }
 {
@@ -151,7 +152,8 @@ fn climb_by(s: Seed, a: Address, k: u32, position: u32, v: [u8; 32], other: [u8;
     }
 }
 
-// The root that a leaf and its path of `height` nodes lead to.
+// The root that a leaf and its path of `height` nodes lead to. That a path has so many, of the suite's n bytes each, is asked here and below:
+// a type of such slices would hold seed and height too.
 fn root_from_path(
     s: Seed,
     a: Address,
@@ -164,6 +166,7 @@ fn root_from_path(
     ensures { held s result ≡ root_from_path (suite_of s) (seed_of s) a height index (held s start) (values_in s height path.now) }
 {
     let n = s.value_length();
+    // Each node is split off: of a `zip` of the heights and `chunks_exact(n)` a proof knows the pairs so far, and not that a node is that of k.
     let mut rest = path;
     let mut v = start;
     let mut position = index;
