@@ -1,7 +1,9 @@
 -- Digits in a list: those of a value in front, and those of its checksum behind them.
 use mathlib.Core.Path.{◌≡◌, refl, ap, ◌∙◌}
-use mathlib.Core.List.{List, ◌++◌, append_assoc}
-use Prim.Native.Nat.{ℕ, ◌+◌, ◌*◌, ◌^◌}
+use mathlib.Core.List.{List, [], ◌∷◌, ◌++◌, append_assoc}
+use Prim.Native.Nat.{ℕ, ◌+◌, ◌-◌, ◌*◌, ◌^◌, ◌≤◌}
+use native.Mathlib.Omega.{arith}
+use Rattle.std.specs.List.{fold, sum_by}
 use lib.ListN.{length, take, drop, length-append}
 use lib.Seq.{take_at}
 use Rattle.lists.specs.Bytes.{to_byte}
@@ -21,3 +23,17 @@ module _ (k : ℕ) (m z x : List ℕ) (ex : x ≡ base_w m k) where
   both_written y s rest ey es =
       let l : length (base_w m k ++ base_w s 3) ≡ k + 3 = simp (length-append, length-base_w) in
       rw (front_written, ey, ← append_assoc (base_w m k) (base_w s 3) rest, take_at (base_w m k ++ base_w s 3) rest (k + 3) l, es) refl
+
+-- the checksum is a sum over the digits, of at most 15 each
+sum_from : (l : List ℕ) (k : ℕ) → fold (λ a d. a + (15 - d)) k l ≡ k + checksum l
+unfolding checksum
+sum_from [] k = omega arith
+sum_from (d ∷ l) k = sum_from l (k + (15 - d)) ∙ omega arith
+
+pub checksum_is : (l : List ℕ) → sum_by (λ d. 15 - d) l ≡ checksum l
+checksum_is l = sum_from l 0 ∙ omega arith
+
+pub checksum_most : (l : List ℕ) → checksum l ≤ 15 * length l
+unfolding checksum
+checksum_most [] = omega arith
+checksum_most (d ∷ l) = omega (arith, checksum_most l)

@@ -6,7 +6,7 @@
 
 #![tactic(auto)]
 
-ghost use Rattle.std.specs.Prelude.{◌≡◌, ◌++◌, ◌+◌, ◌-◌, ◌*◌, ◌/◌, ◌%◌, ◌^◌, ◌<◌, ◌≤◌, ℕ, length, get_or, take};
+ghost use Rattle.std.specs.Prelude.{All, ◌≡◌, ◌++◌, ◌+◌, ◌-◌, ◌*◌, ◌/◌, ◌%◌, ◌^◌, ◌<◌, ◌≤◌, ℕ, length, get_or, take};
 ghost use Rattle.lists.specs.Bytes.{to_byte};
 ghost use Rattle.rfc8391.specs.Wots.{base_w, checksum, digits, len, step, chain, wots_pk, wots_pk_from_sig};
 ghost use Rattle.keyed.specs.Seeds.{suite_of, held, held_all, values_in, seed_of};
@@ -34,16 +34,12 @@ fn write_digits(out: &mut [u8], x: &[u8])
 }
 
 // How much the digits leave of 15 each. That a digit is at most 15 is asked here and of each walk: a type of such digits would be taken apart
-// wherever one is used, as a number of steps. A loop, as the closure of `map(..).sum()` would have to know of each item that it is at most 15.
+// wherever one is used, as a number of steps.
 fn checksum_of(digits: &[u8]) -> u16
-    requires { ((i : ℕ) → get_or digits.now i 0 ≤ 15) × (length digits.now ≤ 64) }
+    requires { (All (λ d. d ≤ 15) digits.now) × (length digits.now ≤ 64) }
     ensures { (result ≡ checksum digits.now) × (result ≤ 960) }
 {
-    let mut sum = 0;
-    for d in digits {
-        sum += u16::from(15 - *d);
-    }
-    sum
+    digits.iter().map(|&d| u16::from(15 - d)).sum()
 }
 
 // How far the signer walks each chain for the value m: k digits of m, and three of their checksum. The array is as long as the longest,

@@ -1,14 +1,12 @@
-use native.Mathlib.Omega.{arith}
-use mathlib.Core.Path.{refl}
-use Rattle.rfc8391.proofs.Digits.{checksum_more}
+-- The sum of what each digit leaves.
+use Rattle.std.proofs.Common.{rules, ◌≡◌, ◌-◌, ◌∙◌, arith}
+use Rattle.std.specs.List.{sum_by}
 use Rattle.rfc8391.specs.Wots.{checksum}
+use Rattle.onetime.proofs.Digits.{checksum_is, checksum_most}
 use Rattle.onetime.proofs.checksum_of.Goals as goal
 
-pub loop-d-init : goal.loop-d-init
-unfolding checksum
-loop-d-init c = (refl, omega arith)
-
-pub loop-d-preserved : goal.loop-d-preserved
-loop-d-preserved c =
-    let l = c.loop-d in
-    (rw (checksum_more c.args.digits.now l.d-index c.loop-d-test.true, ← l.invariant.0, c.from-sum.ensures) refl, omega (arith, c.from-sum.ensures))
+pub returns : goal.returns
+returns c =
+    let e : c.sum.result ≡ sum_by (λ d. 15 - d) c.args.digits.now = search rules in
+    let f : c.sum.result ≡ checksum c.args.digits.now = e ∙ checksum_is c.args.digits.now in
+    (f, omega (arith, f, checksum_most c.args.digits.now))

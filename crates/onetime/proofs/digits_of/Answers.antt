@@ -8,6 +8,7 @@ use Rattle.rfc8391.proofs.Digits.{length-base_w, base_w_small}
 use Rattle.rfc8391.specs.Wots.{base_w, checksum}
 use Rattle.lists.specs.Bytes.{to_byte}
 use Rattle.onetime.proofs.Digits.{front_written, both_written}
+use Rattle.std.proofs.lemmas.List.{get_or_default}
 use Rattle.onetime.proofs.digits_of.Goals as goal
 use Rattle.onetime.proofs.digits_of.Goals.{After-write_digits}
 
@@ -21,7 +22,7 @@ pub checksum_of-shifted-requires : goal.checksum_of-shifted-requires
 checksum_of-shifted-requires c =
     let a = c.args in
     rw (front_written a.k a.m _ c.write_digits.new.out (front (goal.at.checksum_of-shifted-requires c).After-write_digits))
-    (λ i. base_w_small a.m a.k i, rw length-base_w c.requires)
+    (λ i d h. rw (get_or_default (base_w a.m a.k) i d 0 h) (base_w_small a.m a.k i), rw length-base_w c.requires)
 
 pub returns : goal.returns
 unfolding to_byte
