@@ -13,7 +13,8 @@ ghost use Rattle.marks.specs.Marking.{byte_count, count_of, reserve_refusals, re
 
 use outcomes::Refusal;
 
-// What reserving answers: the session for the first unused index, the place of its byte and the byte's new value.
+// What reserving answers: the session for the first unused index, the place of its byte and the byte's new value. C reads the
+// outcome as a number, 0 where an index is reserved.
 #[repr(C)]
 #[derive(Clone, Copy)]
 pub struct Reserved {
@@ -23,7 +24,7 @@ pub struct Reserved {
     pub value: u8,
 }
 
-// What marking answers; the page is changed in place.
+// What marking answers, the outcome as C's number; the page is changed in place.
 #[repr(C)]
 #[derive(Clone, Copy)]
 pub struct Marked {

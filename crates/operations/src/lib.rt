@@ -29,7 +29,7 @@ pub struct Made {
     pub outcome: u32,
 }
 
-// What signing answers, with the session that the caller goes on with.
+// What signing answers, with the session that the caller goes on with. C reads the outcome as a number, 0 where it signed.
 #[repr(C)]
 #[derive(Clone, Copy)]
 pub struct Signed {
@@ -90,15 +90,12 @@ fn pending_index(
         return Err(Refusal::OutLength);
     }
     let used = marks::count(page).ok_or(Refusal::PageDamaged)?;
-    let nothing_pending = session == 0;
-    if nothing_pending {
-        return Err(Refusal::SessionDoesNotFit);
-    }
+    let index = session.checked_sub(1).ok_or(Refusal::SessionDoesNotFit)?;
     let not_marked = used != session;
     if not_marked {
         return Err(Refusal::SessionDoesNotFit);
     }
-    Ok(session - 1)
+    Ok(index)
 }
 
 // Signs a message with the pending index, whose mark must be stored in the page. The session ends with the signature.

@@ -1,6 +1,6 @@
 -- Each number, by the tests that lead to it.
 use mathlib.Core.Path.{◌≡◌, sym, ◌∙◌}
-use Rattle.std.proofs.Common.{rules}
+use Rattle.std.proofs.Common.{rules, ◌≤◌}
 use native.Mathlib.Omega.{arith}
 use Rattle.outcomes.specs.Refused.{number_of}
 use Rattle.lists.specs.Bytes.{number}
@@ -9,11 +9,15 @@ use Rattle.marks.proofs.Counting.{counted, not_counted}
 use Rattle.marks.proofs.Marks.{used_most}
 use Rattle.operations.proofs.Signs.{record_wrong, type_unserved, message_long, room_wrong, page_wrong, not_stored, stored}
 use Rattle.operations.proofs.pending_index.Goals as goal
-use Rattle.operations.proofs.pending_index.Goals.{Else-other_type}
+use Rattle.operations.proofs.pending_index.Goals.{Else-other_type, In_ok-index}
 
 -- the record's type, once it is known
 typed : (c : Else-other_type) → number c.args.secret.now 0 4 ≡ 1
 typed c = omega (arith, c.big_endian-other_type.ensures, c.if-other_type.false)
+
+-- an index is pending, once one is taken from the session
+pending : (c : In_ok-index) → 1 ≤ c.args.session
+pending c = omega (arith, (rw c.in_ok-index.ensures.ok_part at c.checked_sub.ensures).0)
 
 pub returns-then-secret-ne132-clause-outcome : goal.returns-then-secret-ne132-clause-outcome
 returns-then-secret-ne132-clause-outcome c = record_wrong _ _ _ _ _ c.if-secret-ne132.true
@@ -40,12 +44,15 @@ returns-in_err-used-clause-outcome c =
     ∙ page_wrong _ _ _ _ _ c.if-secret-ne132.false t c.if-message-gt65536.false c.if-out-ne2500.false
     (not_counted _ (sym c.count.ensures ∙ c.in_err-used.ensures.ok_part))
 
-pub returns-then-nothing_pending-clause-outcome : goal.returns-then-nothing_pending-clause-outcome
-returns-then-nothing_pending-clause-outcome c =
-    let t = typed (goal.at.returns-then-nothing_pending-clause-outcome c).Else-other_type in
+pub returns-in_err-index-clause-outcome : goal.returns-in_err-index-clause-outcome
+returns-in_err-index-clause-outcome c =
+    let t = typed (goal.at.returns-in_err-index-clause-outcome c).Else-other_type in
     let u = counted _ _ (sym c.count.ensures ∙ c.in_ok-used.ensures.ok_part) in
-    not_stored _ _ _ _ _ c.if-secret-ne132.false t c.if-message-gt65536.false c.if-out-ne2500.false
-    u.0 (λ h. omega (arith, c.if-nothing_pending.true, h.0.0))
+    let none : 1 ≤ c.args.session → ⊥ = rw c.in_err-index.ensures.ok_part at c.checked_sub.ensures in
+    let e : number_of c.from_residual-in_err-index.result ≡ 10 = search rules in
+    e
+    ∙ not_stored _ _ _ _ _ c.if-secret-ne132.false t c.if-message-gt65536.false c.if-out-ne2500.false
+    u.0 (λ h. none h.0.0)
 
 pub returns-then-not_marked-clause-outcome : goal.returns-then-not_marked-clause-outcome
 returns-then-not_marked-clause-outcome c =
@@ -59,6 +66,5 @@ returns-clause-outcome c =
     let t = typed (goal.at.returns-clause-outcome c).Else-other_type in
     let u = counted _ _ (sym c.count.ensures ∙ c.in_ok-used.ensures.ok_part) in
     let e : used c.args.page.now ≡ c.args.session = omega (arith, u.1, c.if-not_marked.false) in
-    let z = c.if-nothing_pending.false in
     stored _ _ _ _ _ c.if-secret-ne132.false t c.if-message-gt65536.false c.if-out-ne2500.false
-    u.0 ((omega arith, omega (arith, e, used_most c.args.page.now)), e)
+    u.0 ((pending (goal.at.returns-clause-outcome c).In_ok-index, omega (arith, e, used_most c.args.page.now)), e)
