@@ -88,16 +88,17 @@ struct Head {
 
 impl From<&[u8; 32]> for Head {
     fn from(head: &[u8; 32]) -> Self {
-        let number = |i: usize| lists::big_endian(head, 4 * i);
+        let numbers: [u32; 8] = std::array::from_fn(|i| lists::big_endian(head, 4 * i));
+        let [which, number, _, message, out, other_out, first, second] = numbers;
         Self {
-            which: Which::from(number(0)),
-            number: number(1),
+            which: Which::from(which),
+            number,
             fill: head[11],
-            message_len: number(3) as usize,
-            out_len: number(4) as usize,
-            other_out_len: number(5) as usize,
-            first_len: number(6) as usize,
-            second_len: number(7) as usize,
+            message_len: message as usize,
+            out_len: out as usize,
+            other_out_len: other_out as usize,
+            first_len: first as usize,
+            second_len: second as usize,
         }
     }
 }

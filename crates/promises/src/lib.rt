@@ -1,6 +1,6 @@
-// What is promised of each operation: a function takes its arguments, calls it, and ensures the customer's sentence on what came back.
-// Functions that make the same call differ in what they promise, and docs/PROMISES.md lists each by its name. Parameters are those of the
-// exported function, which C hands over one by one.
+// What is promised of each operation: a function takes its arguments, calls it, and ensures the customer's sentence on what came back; one
+// without arguments states a law of all pages or histories, or the table. Functions that make the same call differ in what they promise, and
+// docs/PROMISES.md lists each by its name. Parameters are those of the exported function, which C hands over one by one.
 // Uses the operations and the page of marks.
 // It is the door by which a reader comes in (docs/PROMISES.md); the shams use it.
 
@@ -273,7 +273,8 @@ pub enum Kind {
     Signing,
 }
 
-// What a call of a history answers, whichever operation it is: the structs for C that have the same fields keep their names.
+// What a call of a history answers, whichever operation it is: the structs for C that have the same fields keep their names. A
+// `From` for each of the three would name the two fields once more than the arms of `call` do.
 #[derive(Clone, Copy)]
 pub struct Answer {
     pub outcome: u32,
