@@ -71,8 +71,8 @@ pub struct Walked {
     pub value: [u8; 32],
 }
 
-// The steps from a position on, one after the other. `next` stands between, since the result of a call goes to a new variable where it is
-// an array: the borrow checker covers no other form yet.
+// The steps from a position on, one after the other. `next` stands between, as the borrow checker covers no call whose result goes straight
+// into an array. A `fold` over the positions would do without it, but was not proved: the search finds nothing in its closure's calls.
 pub fn walk(s: Seed, a: Address, x: [u8; 32], from: u32, steps: u32) -> Walked
     requires { from + steps ≤ 15 }
     ensures { held s result.value ≡ chain (suite_of s) (seed_of s) a (held s x) from steps }
