@@ -1,9 +1,5 @@
 -- What a frame's line leaves in the buffer that keeps it.
-use mathlib.Core.Path.{◌≡◌}
-use mathlib.Core.List.{List, ◌++◌}
-use Prim.Native.Nat.{ℕ, ◌-◌, ◌≤◌}
-use native.Mathlib.Omega.{arith}
-use lib.ListN.{length, take, drop, length-take, length-drop}
+use Rattle.std.proofs.Common.{◌≡◌, ℕ, ◌-◌, ◌≤◌, List, ◌++◌, length, take, drop, arith, length-drop, length-take}
 use Rattle.lines.specs.declared.Line.{Line}
 use Rattle.lines.proofs.Buffers.{copied}
 

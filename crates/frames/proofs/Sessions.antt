@@ -1,10 +1,5 @@
 -- A turn of the loop over a chunk.
-use mathlib.Core.Path.{◌≡◌, ap, ◌∙◌}
-use mathlib.Core.List.{List, ◌++◌}
-use Prim.Native.Nat.{ℕ, ◌+◌, ◌*◌, ◌≤◌, ◌<◌}
-use native.Mathlib.Omega.{arith}
-use lib.ListN.{length, take, drop, get_or}
-use Rattle.std.specs.Prelude.{Option}
+use Rattle.std.proofs.Common.{◌≡◌, ℕ, ◌+◌, ◌*◌, ◌<◌, ◌≤◌, List, ◌++◌, length, get_or, take, drop, Option, ap, ◌∙◌, arith}
 use Rattle.lines.specs.Steps.{Stepped, stepped, after, run_of}
 use Rattle.lines.specs.Reading.{Session, char_step}
 use Rattle.lines.proofs.Buffers.{written_behind}

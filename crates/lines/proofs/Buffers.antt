@@ -1,10 +1,7 @@
 -- Texts at the front of a buffer: copied there, written behind one that stands there, ended by a byte.
-use mathlib.Core.Path.{◌≡◌, sym, ap, ◌∙◌}
-use mathlib.Core.List.{List, [], ◌∷◌, ◌++◌, append_assoc}
-use Prim.Native.Nat.{ℕ, ◌+◌, ◌≤◌, ◌<◌}
-use native.Mathlib.Numerals.{add-one}
-use lib.ListN.{length, take, drop, set}
-use lib.Seq.{length-take-le, take-append_seam, take-append-add, take-append-le, take-suc-set}
+use Rattle.std.proofs.Common.{◌≡◌, ℕ, ◌+◌, ◌<◌, ◌≤◌, List, [], ◌∷◌, ◌++◌, length, take, drop, set, sym, ap, ◌∙◌, append_assoc, add-one, length-take-le, take-suc-set}
+use Rattle.std.proofs.Math.Seq.{take-append_seam, take-append-add}
+use Rattle.std.proofs.lemmas.List.{take-append-le}
 
 -- what a copy leaves at the front
 pub copied : (n : ℕ) (p old new : List ℕ) → n ≡ length p → new ≡ p ++ drop (length p) old → take n new ≡ p

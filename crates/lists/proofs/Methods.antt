@@ -1,11 +1,5 @@
 -- What the library's methods for the bytes of a number say, in the words of `specs/Bytes.antt`.
-use mathlib.Core.Path.{◌≡◌, refl, sym, ap, ap₂}
-use mathlib.Core.List.{List, [], ◌∷◌}
-use Prim.Native.Nat.{ℕ, zero, suc, ◌+◌, ◌*◌, ◌/◌, ◌%◌, ◌^◌}
-use native.Mathlib.Nat.{mul-suc, pow-suc, add-zero, div-one}
-use native.Mathlib.Omega.{arith}
-use lib.ListN.{get_or}
-use lib.Pow.{pow-add}
+use Rattle.std.proofs.Common.{◌≡◌, ℕ, zero, suc, ◌+◌, ◌*◌, ◌/◌, ◌%◌, ◌^◌, List, [], ◌∷◌, get_or, sym, refl, ap, ap₂, add-zero, pow-suc, mul-suc, div-one, arith, pow-add}
 use Rattle.std.specs.Int.{w32, from_be_bytes, bytes_high_first, byte_at}
 use Rattle.lists.specs.Bytes.{to_byte, number}
 

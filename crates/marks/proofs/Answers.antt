@@ -1,12 +1,5 @@
 -- The answers of reserving and marking by the tests that lead to them: one law a number.
-use mathlib.Core.Path.{◌≡◌, refl, sym, ◌∙◌}
-use mathlib.Core.Bool.{false}
-use mathlib.Core.List.{List}
-use mathlib.Core.Logic.{inl, inr}
-use Prim.Native.Nat.{ℕ, ◌+◌, ◌-◌, ◌/◌, ◌%◌, ◌≤◌, ◌<◌}
-use native.Mathlib.Omega.{arith}
-use lib.ListN.{get_or, set}
-use borrow.Author.Tests.{eq-eqb, ne_eqb, le-ltb}
+use Rattle.std.proofs.Common.{◌≡◌, ℕ, ◌+◌, ◌-◌, ◌/◌, ◌%◌, ◌<◌, ◌≤◌, false, List, get_or, set, sym, refl, ◌∙◌, inl, inr, arith, le-ltb, eq-eqb, ne_eqb}
 use Rattle.outcomes.specs.Outcome.{outcome_of}
 use Rattle.outcomes.proofs.Outcomes.{outcome_at, outcome_none, exactly, unless_done, unless_refused}
 use Rattle.marks.specs.Page.{bit_used, mark_used, used, used_below, WellFormed, Serves, Fits, cleared, with_mark}

@@ -1,15 +1,10 @@
 -- The nine bytes that are in order, by tests of every byte and every bit.
-use mathlib.Core.Path.{◌≡◌, refl, ap}
-use mathlib.Core.Bool.{Bool, true, false, not, ◌||◌, false≢true}
-use Prim.Native.Nat.{ℕ, ◌+◌, ◌-◌, ◌/◌, ◌%◌, ◌^◌, ◌≤◌, ◌<◌}
-use native.Mathlib.Nat.{div-eq_of_lt}
-use native.Mathlib.Decide.{dec_le}
-use native.Mathlib.Omega.{arith}
-use lib.Dec.{eqb, ltb}
-use lib.Count.{count_leading_zeros}
-use borrow.Author.Tests.{eqb-true, eqb-false}
+use Rattle.std.proofs.Common.{◌≡◌, ℕ, ◌+◌, ◌-◌, ◌/◌, ◌%◌, ◌^◌, ◌<◌, ◌≤◌, Bool, true, false, not, ◌||◌, eqb, ltb, refl, ap, arith, eqb-true}
+use Rattle.std.proofs.Math.Nat.{div-eq_of_lt}
+use Rattle.std.proofs.Math.Decide.{dec_le}
+use Rattle.std.specs.Int.Count.{count_leading_zeros}
 use Rattle.marks.specs.Page.{bit_used, cleared}
-use Rattle.std.proofs.lemmas.Bool.{agree_below}
+use Rattle.std.proofs.lemmas.Bool.{agree_below, false≢true, eqb-false}
 use Rattle.marks.proofs.Tests.{agree_is, passes}
 
 -- of a byte's marks the first z are used

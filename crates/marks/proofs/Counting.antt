@@ -1,16 +1,8 @@
 -- Counting byte by byte: what each byte adds to the count, and which bytes show that a page is not well formed.
-use mathlib.Core.Path.{◌≡◌, refl, sym, ap, ◌∙◌}
-use mathlib.Core.Bool.{true≢false}
-use mathlib.Core.List.{List}
-use mathlib.Core.Logic.{◌⊎◌, ⊎_elim}
-use Rattle.std.specs.Prelude.{Option, Some, None}
-use Prim.Native.Nat.{ℕ, ◌+◌, ◌-◌, ◌*◌, ◌/◌, ◌^◌, ◌≤◌, ◌<◌, min}
-use native.Mathlib.Decide.{ℕ_discrete, dec_le}
-use native.Mathlib.Omega.{arith}
-use lib.ListN.{length, get_or}
-use lib.Dec.{ltb}
-use lib.Count.{count_leading_zeros, leading_le}
-use borrow.Author.Tests.{lt-ltb, le-ltb}
+use Rattle.std.proofs.Common.{◌≡◌, ℕ, ◌+◌, ◌-◌, ◌*◌, ◌/◌, ◌^◌, ◌<◌, ◌≤◌, min, ltb, ◌⊎◌, List, length, get_or, Some, None, Option, sym, refl, ap, ◌∙◌, ⊎_elim, true≢false, arith, le-ltb, lt-ltb}
+use Rattle.std.proofs.Math.Decide.{ℕ_discrete, dec_le}
+use Rattle.std.specs.Int.Count.{count_leading_zeros}
+use Rattle.std.proofs.lemmas.Nat.{leading_le}
 use Rattle.lists.specs.Bytes.{Bytes}
 use Rattle.marks.specs.Page.{mark_used, used, WellFormed}
 use Rattle.marks.specs.Decisions.{well_formed?}

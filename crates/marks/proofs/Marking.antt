@@ -1,13 +1,6 @@
 -- Each number exactly by its conditions; marking changes one bit; the byte that reserving hands out is the one that marking stores.
-use mathlib.Core.Path.{◌≡◌, refl, sym, ap, subst, ◌∙◌}
-use mathlib.Core.List.{List}
-use Prim.Native.Nat.{ℕ, zero, suc, ◌+◌, ◌-◌, ◌/◌, ◌%◌, ◌<◌, ◌≤◌}
-use native.Mathlib.Decide.{dec_le}
-use native.Mathlib.Omega.{arith}
-use lib.ListN.{length-set}
-use lib.Seq.{get_or-set_other}
-use lib.Dec.{ltb}
-use borrow.Author.Tests.{lt-ltb, le-ltb}
+use Rattle.std.proofs.Common.{◌≡◌, ℕ, zero, suc, ◌+◌, ◌-◌, ◌/◌, ◌%◌, ◌<◌, ◌≤◌, ltb, List, sym, refl, ap, ◌∙◌, subst, arith, length-set, get_or-set_other, le-ltb, lt-ltb}
+use Rattle.std.proofs.Math.Decide.{dec_le}
 use Rattle.lists.specs.Bytes.{Bytes}
 use Rattle.outcomes.specs.Outcome.{outcome_of, unless}
 use Rattle.outcomes.proofs.Outcomes.{outcome_back, exactly}

@@ -1,10 +1,6 @@
 -- Rows 8 to 12 of the table hold of the definitions: the pages by computing, the answers by their laws.
-use mathlib.Core.Path.{◌≡◌, refl, sym, subst, ◌∙◌}
-use mathlib.Core.Bool.{false, false≢true}
-use mathlib.Core.List.{List}
-use Prim.Native.Nat.{ℕ, ◌+◌, ◌/◌, ◌%◌, ◌<◌, ◌≤◌}
-use native.Mathlib.Omega.{arith}
-use lib.ListN.{get_or}
+use Rattle.std.proofs.Common.{◌≡◌, ℕ, ◌+◌, ◌/◌, ◌%◌, ◌<◌, ◌≤◌, false, List, get_or, sym, refl, ◌∙◌, subst, arith}
+use Rattle.std.proofs.lemmas.Bool.{false≢true}
 use Rattle.lists.specs.Lists.{tab}
 use Rattle.marks.specs.Page.{bit_used, mark_used, used_below, ordered_below, used, WellFormed, cleared, with_mark}
 use Rattle.marks.proofs.Ordered.{byte_of, page_of}

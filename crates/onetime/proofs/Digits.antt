@@ -1,11 +1,6 @@
 -- Digits in a list: those of a value in front, and those of its checksum behind them.
-use mathlib.Core.Path.{◌≡◌, refl, ap, ◌∙◌}
-use mathlib.Core.List.{List, [], ◌∷◌, ◌++◌, append_assoc}
-use Prim.Native.Nat.{ℕ, ◌+◌, ◌-◌, ◌*◌, ◌^◌, ◌≤◌}
-use native.Mathlib.Omega.{arith}
+use Rattle.std.proofs.Common.{◌≡◌, ℕ, ◌+◌, ◌-◌, ◌*◌, ◌^◌, ◌≤◌, List, [], ◌∷◌, ◌++◌, length, take, drop, refl, ap, ◌∙◌, append_assoc, arith, length-append, take_at}
 use Rattle.std.specs.List.{fold, sum_by}
-use lib.ListN.{length, take, drop, length-append}
-use lib.Seq.{take_at}
 use Rattle.lists.specs.Bytes.{to_byte}
 use Rattle.rfc8391.specs.Wots.{base_w, checksum, digits}
 use Rattle.rfc8391.proofs.Digits.{length-base_w}

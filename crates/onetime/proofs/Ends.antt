@@ -1,10 +1,5 @@
 -- Chain steps, chain values and chain ends from what the calls give, over any suite. A value stands at the front of a longer list.
-use mathlib.Core.Path.{◌≡◌, sym, ap, ◌∙◌}
-use mathlib.Core.List.{List, []}
-use Prim.Native.Nat.{ℕ, ◌-◌, ◌*◌, ◌<◌, ◌≤◌}
-use native.Mathlib.Nat.{zero-add}
-use lib.ListN.{get_or, take, drop}
-use lib.Seq.{get_or-take}
+use Rattle.std.proofs.Common.{◌≡◌, ℕ, ◌-◌, ◌*◌, ◌<◌, ◌≤◌, List, [], get_or, take, drop, sym, ap, ◌∙◌, zero-add, get_or-take}
 use Rattle.lists.specs.Lists.{tab, parts}
 use Rattle.lists.proofs.Tabs.{tab_ext, get_or-tab}
 use Rattle.rfc8391.specs.Suite.{Suite, xor}

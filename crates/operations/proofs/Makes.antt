@@ -1,8 +1,5 @@
 -- Making's answer and buffers by the tests that lead to them: one law a number.
-use mathlib.Core.Path.{◌≡◌, ap, ap₂, ◌∙◌}
-use mathlib.Core.List.{List, ◌++◌}
-use Prim.Native.Nat.{ℕ}
-use lib.ListN.{length}
+use Rattle.std.proofs.Common.{◌≡◌, ℕ, List, ◌++◌, length, ap, ◌∙◌, ap₂}
 use Rattle.outcomes.proofs.Outcomes.{unless_at, unless_none}
 use Rattle.lists.specs.Bytes.{to_byte}
 use Rattle.rfc8391.specs.Formats.{key_length, key_bytes}

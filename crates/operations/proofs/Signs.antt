@@ -1,8 +1,5 @@
 -- Signing's refusals by the tests that lead to each; and what no refusal says.
-use mathlib.Core.Path.{◌≡◌, refl, sym, ap, ◌∙◌}
-use mathlib.Core.List.{List}
-use Prim.Native.Nat.{ℕ, ◌-◌, ◌<◌, ◌≤◌}
-use lib.ListN.{length}
+use Rattle.std.proofs.Common.{◌≡◌, ℕ, ◌-◌, ◌<◌, ◌≤◌, List, length, sym, refl, ap, ◌∙◌}
 use Rattle.lists.specs.Bytes.{number}
 use Rattle.outcomes.specs.Outcome.{outcome_of}
 use Rattle.outcomes.proofs.Outcomes.{outcome_at, outcome_none, exactly, unless_refused}

@@ -1,11 +1,5 @@
 -- What a known type says of its height and lengths.
-use mathlib.Core.Path.{◌≡◌, refl, subst}
-use mathlib.Core.Bool.{Bool, true, false}
-use Rattle.std.specs.Prelude.{Option, Some, None}
-use Prim.Native.Nat.{ℕ, ◌≤◌}
-use native.Mathlib.Omega.{arith}
-use lib.Dec.{eqb}
-use borrow.Author.Tests.{ne_eqb}
+use Rattle.std.proofs.Common.{◌≡◌, ℕ, ◌≤◌, Bool, true, false, eqb, Some, None, Option, refl, subst, arith, ne_eqb}
 use Rattle.lists.specs.Lists.{pick}
 use Rattle.marks.proofs.Counting.{tally_other}
 use Rattle.rfc8391.specs.Formats.{value_length, key_length, served, key_type, hash_of, height_of, path_start, signature_length}

@@ -1,6 +1,6 @@
 -- That the conditions of refusal can be told: what they mean stands where they are listed.
-use Rattle.std.specs.Prelude.{◌≡◌, refl, ℕ, Option, Some, None}
-use mathlib.Core.List.{List, List-discrete}
+use Rattle.std.specs.Prelude.{◌≡◌, ℕ, List, Some, None, Option, refl}
+use mathlib.Core.List.{List-discrete}
 use Rattle.std.proofs.Math.Decide.{ℕ_discrete}
 use Rattle.rfc8391.specs.Suite.{Suite}
 use Rattle.rfc8391.specs.Xmss.{PublicKey, Signature, verify}

@@ -1,13 +1,6 @@
 -- An outcome says exactly which condition is the first that holds: once, for every list of refusals.
-use mathlib.Core.Path.{◌≡◌, refl, sym, ap, ◌∙◌}
-use mathlib.Core.Bool.{Bool, true, false, not, ◌&&◌, false≢true}
-use mathlib.Core.List.{[], ◌∷◌}
-use mathlib.Core.Logic.{◌⊎◌, inl, inr, ⊎_elim, ◌↔◌}
-use Prim.Native.Nat.{ℕ, zero, suc, ◌≤◌}
-use native.Mathlib.Omega.{arith}
-use lib.Dec.{eqb, leb}
-use Rattle.std.proofs.lemmas.Bool.{and_parts}
-use borrow.Author.Tests.{eqb-false, leb-true, not-true}
+use Rattle.std.proofs.Common.{◌≡◌, ℕ, zero, suc, ◌≤◌, Bool, true, false, not, ◌&&◌, eqb, leb, ◌⊎◌, ◌↔◌, [], ◌∷◌, sym, refl, ap, ◌∙◌, inl, inr, ⊎_elim, arith, leb-true}
+use Rattle.std.proofs.lemmas.Bool.{and_parts, false≢true, eqb-false, not-true}
 use Rattle.outcomes.specs.Conditions.{Condition}
 use Rattle.outcomes.specs.Refused.{refusal_number}
 use Rattle.outcomes.specs.declared.Refusal.{Refusal}

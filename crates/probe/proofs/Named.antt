@@ -1,8 +1,5 @@
 -- A leaf of a tree over the suite of SHA-256 is the leaf of RFC 8391 over that suite.
-use mathlib.Core.Path.{◌≡◌, ◌∙◌}
-use mathlib.Core.List.{List}
-use Prim.Native.Nat.{ℕ}
-use lib.ListN.{length, take}
+use Rattle.std.proofs.Common.{◌≡◌, ℕ, List, length, take, ◌∙◌}
 use Rattle.rfc8391.specs.Suite.{Suite}
 use Rattle.rfc8391.specs.House.{secrets}
 use Rattle.rfc8391.specs.Xmss.{leaf_of}

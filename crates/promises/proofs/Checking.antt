@@ -1,11 +1,5 @@
 -- The promises of checking hold of its list of refusals, over any suites.
-use mathlib.Core.Path.{◌≡◌, refl, sym, ◌∙◌}
-use mathlib.Core.List.{List}
-use mathlib.Core.Logic.{◌↔◌}
-use Prim.Native.Nat.{ℕ, ◌+◌, ◌*◌, ◌^◌, ◌<◌, ◌≤◌}
-use native.Mathlib.Nat.{mul_comm, mul-add}
-use native.Mathlib.Omega.{arith}
-use lib.ListN.{length}
+use Rattle.std.proofs.Common.{◌≡◌, ℕ, ◌+◌, ◌*◌, ◌^◌, ◌<◌, ◌≤◌, ◌↔◌, List, length, sym, refl, ◌∙◌, mul_comm, mul-add, arith}
 use Rattle.lists.specs.Bytes.{number}
 use Rattle.outcomes.specs.Outcome.{outcome_of}
 use Rattle.outcomes.proofs.Outcomes.{at_place, at_none, outcome_most}

@@ -1,9 +1,5 @@
 -- What making writes is read back from its bytes, and what is signed with it is accepted under its key.
-use mathlib.Core.Path.{◌≡◌, refl, sym, ap, ap₂, subst, ◌∙◌}
-use mathlib.Core.List.{List}
-use Prim.Native.Nat.{ℕ, ◌-◌, ◌*◌, ◌^◌, ◌<◌, ◌≤◌}
-use native.Mathlib.Omega.{arith}
-use lib.ListN.{length, take, drop, length-append, length-take, length-drop}
+use Rattle.std.proofs.Common.{◌≡◌, ℕ, ◌-◌, ◌*◌, ◌^◌, ◌<◌, ◌≤◌, List, length, take, drop, sym, refl, ap, ◌∙◌, subst, ap₂, arith, length-append, length-drop, length-take}
 use Rattle.lists.specs.Bytes.{number}
 use Rattle.lists.proofs.Numbers.{length-to_byte}
 use Rattle.rfc8391.specs.Suite.{Suite, Value}

@@ -1,12 +1,5 @@
 -- Laws of digits and their sums, over the number of message digits.
-use mathlib.Core.Path.{◌≡◌, refl, ap, ◌∙◌}
-use mathlib.Core.List.{List, [], ◌∷◌, ◌++◌}
-use Prim.Native.Nat.{ℕ, suc, ◌+◌, ◌-◌, ◌*◌, ◌/◌, ◌%◌, ◌^◌, ◌<◌, ◌≤◌}
-use native.Mathlib.Nat.{mod-lt}
-use native.Mathlib.Omega.{arith}
-use lib.ListN.{length, get_or, take, length-append}
-use lib.Seq.{get_or-take, take-suc}
-use native.Mathlib.Numerals.{add-one}
+use Rattle.std.proofs.Common.{◌≡◌, ℕ, suc, ◌+◌, ◌-◌, ◌*◌, ◌/◌, ◌%◌, ◌^◌, ◌<◌, ◌≤◌, List, [], ◌∷◌, ◌++◌, length, get_or, take, refl, ap, ◌∙◌, mod-lt, add-one, arith, get_or-take, take-suc}
 use Rattle.lists.specs.Bytes.{to_byte}
 use Rattle.lists.proofs.Tabs.{length-tab, tab_ext}
 use Rattle.lists.proofs.Everywhere.{append_all, tab_all}
@@ -16,11 +9,6 @@ use Rattle.rfc8391.specs.Wots.{base_w, checksum, total, digits}
 pub length-base_w : (x : List ℕ) (k : ℕ) → length (base_w x k) ≡ k
 unfolding base_w
 length-base_w x k = length-tab k _
-
--- a value of k digits has three more, of its checksum
-pub length_digits : (k : ℕ) (m : List ℕ) → length (digits k m) ≡ k + 3
-unfolding digits
-length_digits k m = simp (length-append, length-base_w)
 
 -- every digit is at most 15
 pub base_w_small : (x : List ℕ) (k i : ℕ) → get_or (base_w x k) i 0 ≤ 15

@@ -1,6 +1,5 @@
 -- A message's blocks, where the message comes in two parts.
-use Rattle.std.proofs.Common.{◌≡◌, ℕ, zero, suc, ◌+◌, ◌*◌, ◌/◌, ◌<◌, ◌≤◌, List, [], ◌++◌, length, get_or, take, drop, sym, refl, ap, ◌∙◌, append_assoc, add-zero, mul-zero, mul-suc, arith, length-append, length-drop, length-take-le, take-append-drop}
-use lib.Seq.{drop-drop, get_or-take, get_or-drop}
+use Rattle.std.proofs.Common.{◌≡◌, ℕ, zero, suc, ◌+◌, ◌*◌, ◌/◌, ◌<◌, ◌≤◌, List, [], ◌++◌, length, get_or, take, drop, sym, refl, ap, ◌∙◌, append_assoc, add-zero, mul-zero, mul-suc, arith, length-append, length-drop, take-append-drop, length-take-le, get_or-drop, get_or-take, drop-drop}
 use Rattle.std.specs.Simd.{first_chunks}
 use Rattle.lists.specs.Lists.{turns}
 use Rattle.lists.proofs.Tabs.{tab_ext}

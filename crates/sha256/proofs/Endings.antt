@@ -1,6 +1,6 @@
 -- The end of a padded message, from its last whole block on, as the code writes it.
 use Rattle.std.proofs.Common.{◌≡◌, ℕ, ◌+◌, ◌-◌, ◌*◌, ◌/◌, ◌%◌, ◌^◌, ◌<◌, ◌≤◌, List, ◌∷◌, ◌++◌, length, take, drop, replicate, sym, ap, ◌∙◌, append_assoc, arith, length-append, length-drop, take-append-drop, length-take-le}
-use lib.ListN.{length-replicate}
+use Rattle.std.proofs.lemmas.List.{length-replicate}
 use Rattle.lists.specs.Bytes.{to_byte}
 use Rattle.lists.proofs.Numbers.{length-to_byte, to_byte-mod}
 use Rattle.sha256.specs.Sha256.{padding, hashed, digest}

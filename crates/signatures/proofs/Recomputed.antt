@@ -1,11 +1,5 @@
 -- What the calls of `recomputed_root` give, one after the other.
-use mathlib.Core.Path.{◌≡◌, refl, sym, ap, ap₂, ◌∙◌}
-use mathlib.Core.List.{List}
-use Prim.Native.Nat.{ℕ, ◌+◌, ◌-◌, ◌*◌}
-use native.Mathlib.Omega.{arith}
-use native.Mathlib.Nat.{zero-add}
-use lib.ListN.{length, take, drop, length-drop}
-use lib.Seq.{take_all, drop-drop}
+use Rattle.std.proofs.Common.{◌≡◌, ℕ, ◌+◌, ◌-◌, ◌*◌, List, length, take, drop, sym, refl, ap, ◌∙◌, ap₂, zero-add, arith, length-drop, take_all, drop-drop}
 use Rattle.lists.specs.Lists.{parts}
 use Rattle.lists.specs.Bytes.{number}
 use Rattle.lists.proofs.Tabs.{tab_ext}

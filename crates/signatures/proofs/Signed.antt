@@ -1,10 +1,5 @@
 -- The parts of a signature are those of the record's key.
-use mathlib.Core.Path.{◌≡◌, ap, ap₂, ◌∙◌}
-use mathlib.Core.List.{List, ◌++◌}
-use Prim.Native.Nat.{ℕ}
-use native.Mathlib.Omega.{arith}
-use lib.ListN.{length, take}
-use lib.Seq.{take_all}
+use Rattle.std.proofs.Common.{◌≡◌, ℕ, List, ◌++◌, length, take, ap, ◌∙◌, ap₂, arith, take_all}
 use Rattle.lists.specs.Lists.{flat}
 use Rattle.lists.specs.Bytes.{to_byte}
 use Rattle.rfc8391.specs.Suite.{Suite}

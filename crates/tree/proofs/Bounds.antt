@@ -1,10 +1,5 @@
 -- Where positions lie: a node's leaves are among 2 ^ 20, and so are its children's and its sibling's.
-use mathlib.Core.Path.{◌≡◌, sym, ap, ◌∙◌}
-use mathlib.Core.Logic.{⊎_elim}
-use Prim.Native.Nat.{ℕ, suc, ◌+◌, ◌-◌, ◌*◌, ◌/◌, ◌%◌, ◌^◌, ◌<◌, ◌≤◌}
-use native.Mathlib.Nat.{pow-suc, add-mul, mul_assoc, mul-le-mul_right, div-lt_iff_lt-mul, eq-zero-or-pos}
-use native.Mathlib.Omega.{arith}
-use lib.Pow.{pow_pos, pow-add, pow_mono}
+use Rattle.std.proofs.Common.{◌≡◌, ℕ, suc, ◌+◌, ◌-◌, ◌*◌, ◌/◌, ◌%◌, ◌^◌, ◌<◌, ◌≤◌, sym, ap, ◌∙◌, ⊎_elim, mul-le-mul_right, mul_assoc, div-lt_iff_lt-mul, add-mul, eq-zero-or-pos, pow-suc, arith, pow_pos, pow_mono, pow-add}
 use Rattle.rfc8391.specs.Xmss.{sibling}
 use Rattle.rfc8391.proofs.Trees.{sibling_of_left, sibling_of_right}
 

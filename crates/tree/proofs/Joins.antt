@@ -1,9 +1,5 @@
 -- Joins, leaves and roots from what the calls give.
-use mathlib.Core.Path.{◌≡◌, sym, ap, ap₂, ◌∙◌}
-use mathlib.Core.List.{List, [], ◌++◌}
-use Prim.Native.Nat.{ℕ, ◌*◌, ◌<◌, ◌≤◌}
-use native.Mathlib.Nat.{zero-add}
-use lib.ListN.{length, get_or, take, drop}
+use Rattle.std.proofs.Common.{◌≡◌, ℕ, ◌*◌, ◌<◌, ◌≤◌, List, [], ◌++◌, length, get_or, take, drop, sym, ap, ◌∙◌, ap₂, zero-add}
 use Rattle.lists.specs.Lists.{parts}
 use Rattle.lists.proofs.Tabs.{get_or-tab}
 use Rattle.rfc8391.specs.Suite.{Suite, xor}

@@ -1,10 +1,5 @@
 -- A buffer that a loop writes part after part, each w elements long.
-use mathlib.Core.Path.{◌≡◌, ◌∙◌}
-use mathlib.Core.List.{List, [], append-nil}
-use Prim.Native.Nat.{ℕ, ◌+◌, ◌-◌, ◌*◌, ◌≤◌}
-use native.Mathlib.Nat.{zero-add}
-use native.Mathlib.Omega.{arith}
-use lib.ListN.{length, take, drop, length-take, length-drop, drop_of_length-le}
+use Rattle.std.proofs.Common.{◌≡◌, ℕ, ◌+◌, ◌-◌, ◌*◌, ◌≤◌, List, [], length, take, drop, ◌∙◌, append-nil, zero-add, arith, length-drop, drop_of_length-le, length-take}
 use Rattle.lists.specs.Lists.{tab, flat}
 use Rattle.lists.specs.Loops.{Written}
 use Rattle.lists.proofs.Written.{written_end}

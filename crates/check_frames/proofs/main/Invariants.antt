@@ -1,7 +1,5 @@
 -- 2 ^ 40 turns of 4,096 bytes can't end more lines than a u64 counts.
-use mathlib.Core.Path.{◌≡◌}
-use Prim.Native.Nat.{◌*◌, ◌≤◌}
-use lib.ListN.{length}
+use Rattle.std.proofs.Common.{◌≡◌, ◌*◌, ◌≤◌, length}
 use Rattle.check_frames.proofs.main.Given as goal
 
 abbrev pub invariant-loop : goal.invariant-loop

@@ -1,6 +1,6 @@
 -- By the hash.
+use Rattle.std.proofs.Common.{rules}
 use Rattle.keyed.proofs.Suites.{only_sha2, h_in_sha2}
-use borrow.Author.Rules.{rules}
 use Rattle.keyed.proofs.h.Goals as goal
 
 pub returns : goal.returns

@@ -1,6 +1,4 @@
-use lib.ListN.{replicate}
-use Prim.Native.Nat.{◌*◌}
-use native.Mathlib.Omega.{arith}
+use Rattle.std.proofs.Common.{◌*◌, replicate, arith}
 use Rattle.lists.proofs.Numbers.{length-to_byte}
 use Rattle.lists.proofs.Written.{written_start, written_more}
 use Rattle.lists.proofs.eight_words.Goals as goal

@@ -1,5 +1,5 @@
 -- The loop writes word after word.
-use lib.ListN.{get_or, replicate}
+use Rattle.std.proofs.Common.{get_or, replicate}
 use Rattle.lists.specs.Bytes.{to_byte}
 use Rattle.lists.specs.Loops.{Written}
 use Rattle.lists.proofs.eight_words.Given as goal

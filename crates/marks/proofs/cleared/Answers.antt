@@ -1,6 +1,5 @@
 -- The byte less its mark's bit, which it has.
-use mathlib.Core.Path.{ap}
-use Prim.Native.Nat.{ℕ, ◌-◌}
+use Rattle.std.proofs.Common.{ℕ, ◌-◌, ap}
 use Rattle.marks.specs.Page.{cleared}
 use Rattle.marks.proofs.Bytes.{has_bit}
 use Rattle.marks.proofs.cleared.Goals as goal

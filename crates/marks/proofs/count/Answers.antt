@@ -1,11 +1,5 @@
 -- Each return by the byte that leads to it.
-use mathlib.Core.Path.{◌≡◌, sym, ◌∙◌}
-use mathlib.Core.Logic.{inl, inr}
-use mathlib.Core.List.{List}
-use Rattle.std.proofs.Common.{Fits, w8}
-use Prim.Native.Nat.{ℕ, ◌*◌}
-use native.Mathlib.Omega.{arith}
-use lib.ListN.{get_or}
+use Rattle.std.proofs.Common.{◌≡◌, ℕ, ◌*◌, List, get_or, sym, ◌∙◌, inl, inr, arith, w8, Fits}
 use Rattle.lists.specs.Bytes.{Bytes}
 use Rattle.marks.proofs.Counting.{counts_none, few, byte_more, byte_out, byte_late, all_counted}
 use Rattle.marks.proofs.count.Goals as goal

@@ -1,7 +1,5 @@
 -- Exactly the first n marks of the bytes read are used.
-use mathlib.Core.Path.{◌≡◌}
-use Prim.Native.Nat.{◌*◌, ◌≤◌}
-use lib.ListN.{length}
+use Rattle.std.proofs.Common.{◌≡◌, ◌*◌, ◌≤◌, length}
 use Rattle.marks.proofs.Ordered.{FirstUsed}
 use Rattle.marks.proofs.count.Given as goal
 

@@ -1,9 +1,5 @@
 -- Each refusal, or the first unused index, by the tests that lead to it.
-use mathlib.Core.Path.{◌≡◌, sym, ◌∙◌}
-use mathlib.Core.List.{List}
-use Rattle.std.proofs.Common.{rules, Some}
-use Prim.Native.Nat.{ℕ}
-use native.Mathlib.Omega.{arith}
+use Rattle.std.proofs.Common.{◌≡◌, ℕ, List, Some, sym, ◌∙◌, arith, rules}
 use Rattle.outcomes.specs.Refused.{number_of}
 use Rattle.marks.specs.Page.{used, Serves}
 use Rattle.marks.specs.Marking.{count_of}

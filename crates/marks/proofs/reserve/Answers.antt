@@ -1,6 +1,5 @@
 -- The first unused index of the page, or a refusal.
-use mathlib.Core.Path.{sym, ap, ◌∙◌}
-use native.Mathlib.Omega.{arith}
+use Rattle.std.proofs.Common.{sym, ap, ◌∙◌, arith}
 use Rattle.outcomes.proofs.Outcomes.{numbered}
 use Rattle.marks.specs.Marking.{reserved}
 use Rattle.marks.proofs.Answers.{next_unused, reserve_clear, reserve_refused, reserve_done}

@@ -1,11 +1,5 @@
 -- Each answer, by the tests that lead to it.
-use mathlib.Core.Path.{◌≡◌, sym, ◌∙◌}
-use mathlib.Core.Logic.{⊎_elim}
-use mathlib.Core.List.{List}
-use Rattle.std.proofs.Common.{rules}
-use Prim.Native.Nat.{ℕ, ◌-◌, ◌/◌, ◌≤◌, ◌<◌}
-use native.Mathlib.Omega.{arith}
-use lib.ListN.{length}
+use Rattle.std.proofs.Common.{◌≡◌, ℕ, ◌-◌, ◌/◌, ◌<◌, ◌≤◌, List, length, sym, ◌∙◌, ⊎_elim, arith, rules}
 use Rattle.outcomes.specs.Refused.{number_of}
 use Rattle.marks.specs.Page.{WellFormed}
 use Rattle.marks.proofs.Counting.{counted, not_counted}

@@ -1,9 +1,4 @@
-use native.Mathlib.Omega.{arith}
-use native.Mathlib.Nat.{div-one}
-use lib.ListN.{length, take, drop, replicate, length-take, length-drop, length-append}
-use Prim.Native.Nat.{ℕ, ◌+◌, ◌-◌, ◌*◌, ◌^◌}
-use mathlib.Core.List.{List, ◌++◌}
-use mathlib.Core.Path.{◌≡◌, ap, ◌∙◌}
+use Rattle.std.proofs.Common.{◌≡◌, ℕ, ◌+◌, ◌-◌, ◌*◌, ◌^◌, List, ◌++◌, length, take, drop, replicate, ap, ◌∙◌, div-one, arith, length-append, length-drop, length-take}
 use Rattle.rfc8391.proofs.Digits.{length-base_w, base_w_small}
 use Rattle.rfc8391.specs.Wots.{base_w, checksum}
 use Rattle.lists.specs.Bytes.{to_byte}

@@ -1,10 +1,4 @@
-use native.Mathlib.Omega.{arith}
-use native.Mathlib.Nat.{le_refl, mul-suc, mul-zero}
-use native.Mathlib.Numerals.{add-one}
-use lib.ListN.{length, take, replicate, length-drop}
-use lib.Seq.{drop-drop}
-use Prim.Native.Nat.{◌+◌, ◌*◌, ◌≤◌}
-use mathlib.Core.Path.{◌≡◌, refl, ◌∙◌}
+use Rattle.std.proofs.Common.{◌≡◌, ◌+◌, ◌*◌, ◌≤◌, length, take, replicate, refl, ◌∙◌, le_refl, mul-zero, mul-suc, add-one, arith, length-drop, drop-drop}
 use Rattle.onetime.proofs.Ends.{end_from, ends_from, digit_most}
 use Rattle.lists.proofs.Flats.{value_within}
 use Rattle.keyed.specs.Seeds.{suite_of, held, seed_of}

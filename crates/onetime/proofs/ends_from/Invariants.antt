@@ -1,7 +1,5 @@
 -- The loop fills the ends in their order, and has the values behind.
-use mathlib.Core.Path.{◌≡◌}
-use Prim.Native.Nat.{◌*◌}
-use lib.ListN.{drop}
+use Rattle.std.proofs.Common.{◌≡◌, ◌*◌, drop}
 use Rattle.onetime.proofs.Ends.{end_from}
 use Rattle.keyed.specs.Seeds.{suite_of, seed_of}
 use Rattle.lists.specs.Fronts.{fronts}

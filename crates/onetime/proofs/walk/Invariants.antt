@@ -1,6 +1,5 @@
 -- Before step j, the steps from `from` on are taken.
-use Prim.Native.Nat.{◌-◌}
-use mathlib.Core.Path.{◌≡◌}
+use Rattle.std.proofs.Common.{◌≡◌, ◌-◌}
 use Rattle.keyed.specs.Seeds.{suite_of, held, seed_of}
 use Rattle.rfc8391.specs.Wots.{chain}
 use Rattle.onetime.proofs.walk.Given as goal

@@ -1,5 +1,4 @@
-use native.Mathlib.Omega.{arith}
-use mathlib.Core.Path.{refl}
+use Rattle.std.proofs.Common.{refl, arith}
 use Rattle.rfc8391.specs.Wots.{base_w}
 use Rattle.lists.proofs.Filling.{filling_start, filling_more, filling_end}
 use Rattle.onetime.proofs.write_digits.Goals as goal

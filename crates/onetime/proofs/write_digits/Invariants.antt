@@ -1,6 +1,5 @@
 -- The loop fills the digits in their order.
-use lib.ListN.{length, get_or}
-use Prim.Native.Nat.{◌-◌, ◌/◌, ◌%◌, ◌^◌}
+use Rattle.std.proofs.Common.{◌-◌, ◌/◌, ◌%◌, ◌^◌, length, get_or}
 use Rattle.lists.specs.Loops.{Filling}
 use Rattle.onetime.proofs.write_digits.Given as goal
 

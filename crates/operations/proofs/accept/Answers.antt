@@ -1,11 +1,6 @@
 -- Each number, by the tests that lead to it.
-use mathlib.Core.Path.{◌≡◌, sym, ap, ◌∙◌}
-use mathlib.Core.Bool.{true, false}
-use Rattle.std.proofs.Common.{rules, Some}
-use Prim.Native.Nat.{◌^◌, ◌<◌, ◌≤◌}
-use native.Mathlib.Nat.{pow-le-pow_right}
-use native.Mathlib.Omega.{arith}
-use lib.Dec.{lit<}
+use Rattle.std.proofs.Common.{◌≡◌, ◌^◌, ◌<◌, ◌≤◌, true, false, Some, sym, ap, ◌∙◌, arith, lit<, rules}
+use Rattle.std.proofs.Math.Nat.{pow-le-pow_right}
 use Rattle.outcomes.specs.Refused.{number_of}
 use Rattle.lists.specs.Bytes.{number}
 use Rattle.rfc8391.specs.Formats.{value_length, key_type, type_of, key_from}

@@ -1,7 +1,5 @@
 -- Each number, by the tests that lead to it.
-use mathlib.Core.Path.{◌≡◌, sym, ◌∙◌}
-use Rattle.std.proofs.Common.{rules, ◌≤◌}
-use native.Mathlib.Omega.{arith}
+use Rattle.std.proofs.Common.{◌≡◌, ◌≤◌, sym, ◌∙◌, arith, rules}
 use Rattle.outcomes.specs.Refused.{number_of}
 use Rattle.lists.specs.Bytes.{number}
 use Rattle.marks.specs.Page.{used}

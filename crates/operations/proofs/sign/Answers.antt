@@ -1,6 +1,5 @@
 -- The signature by the pending index, or a refusal.
-use mathlib.Core.Path.{sym}
-use native.Mathlib.Omega.{arith}
+use Rattle.std.proofs.Common.{sym, arith}
 use Rattle.outcomes.proofs.Outcomes.{numbered}
 use Rattle.operations.proofs.Signs.{allowed, sign_refused, sign_done}
 use Rattle.operations.proofs.sign.Goals as goal

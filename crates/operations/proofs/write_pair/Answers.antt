@@ -1,5 +1,5 @@
 -- Each answer, by the tests that lead to it.
-use mathlib.Core.Logic.{⊎_elim}
+use Rattle.std.proofs.Common.{⊎_elim}
 use Rattle.operations.proofs.Makes.{material_wrong, type_unserved, buffers_wrong, makes}
 use Rattle.operations.proofs.write_pair.Goals as goal
 

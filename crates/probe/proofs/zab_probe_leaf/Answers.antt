@@ -1,5 +1,5 @@
 -- The tree is that of the two seeds, over the suite of SHA-256.
-use mathlib.Core.Path.{ap, ◌∙◌}
+use Rattle.std.proofs.Common.{ap, ◌∙◌}
 use Rattle.keyed.specs.Suites.{suite}
 use Rattle.keyed.proofs.Suites.{suite_sha2}
 use Rattle.probe.proofs.Named.{leaf_named}

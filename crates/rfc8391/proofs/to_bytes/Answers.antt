@@ -1,9 +1,5 @@
 -- 28 zeros, and the four bytes of a number below 2 ^ 32.
-use mathlib.Core.Path.{◌≡◌, sym, ap, ◌∙◌}
-use mathlib.Core.List.{List, [], ◌++◌, append-nil}
-use Prim.Native.Nat.{ℕ}
-use borrow.Author.Rules.{rules}
-use lib.ListN.{replicate}
+use Rattle.std.proofs.Common.{◌≡◌, ℕ, List, [], ◌++◌, replicate, sym, ap, ◌∙◌, append-nil, rules}
 use Rattle.lists.proofs.Numbers.{to_byte_small}
 use Rattle.lists.proofs.Methods.{to_byte_is}
 use Rattle.lists.specs.Bytes.{to_byte}

@@ -1,8 +1,4 @@
-use mathlib.Core.Path.{◌≡◌, sym, ◌∙◌}
-use native.Mathlib.Omega.{arith}
-use borrow.Author.Rules.{rules}
-use lib.ListN.{length, get_or}
-use lib.Seq.{take_all}
+use Rattle.std.proofs.Common.{◌≡◌, length, get_or, sym, ◌∙◌, arith, take_all, rules}
 use Rattle.rfc8391.specs.Suite.{xor}
 use Rattle.lists.proofs.Replacing.{replacing_start, replacing_more, replacing_read}
 use Rattle.rfc8391.proofs.xored.Goals as goal

@@ -1,6 +1,5 @@
 -- The loop joins byte after byte in place.
-use lib.Bits.{bit_xor}
-use lib.ListN.{get_or}
+use Rattle.std.proofs.Common.{get_or, bit_xor}
 use Rattle.lists.specs.Loops.{Replacing}
 use Rattle.rfc8391.proofs.xored.Given as goal
 

@@ -1,6 +1,5 @@
 -- The first 32 bytes, then the others.
-use Rattle.std.proofs.Common.{◌≡◌, ℕ, List, length, replicate, append-nil, rules}
-use lib.Seq.{take_at, drop_at}
+use Rattle.std.proofs.Common.{◌≡◌, ℕ, List, length, replicate, append-nil, take_at, drop_at, rules}
 use Rattle.sha256.proofs.joined.Goals as goal
 
 pub returns : goal.returns

@@ -1,5 +1,4 @@
-use Rattle.std.proofs.Common.{◌≡◌, ℕ, List, ◌∙◌, length, replicate, arith, rules, length-append, length-set}
-use lib.Seq.{take_at}
+use Rattle.std.proofs.Common.{◌≡◌, ℕ, List, length, replicate, ◌∙◌, arith, length-append, length-set, take_at, rules}
 use Rattle.sha256.proofs.Schedule.{schedule_more}
 use Rattle.sha256.specs.Sha256.{word, schedule}
 use Rattle.lists.specs.Lists.{turns}

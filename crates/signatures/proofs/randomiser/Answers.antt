@@ -1,7 +1,5 @@
 -- PRF of the message key, in the suite of its seed.
-use mathlib.Core.Path.{◌≡◌, ap, ap₂, ◌∙◌}
-use lib.ListN.{length}
-use borrow.Author.Rules.{rules}
+use Rattle.std.proofs.Common.{◌≡◌, length, ap, ◌∙◌, ap₂, rules}
 use Rattle.keyed.specs.Sha2.{sha2}
 use Rattle.keyed.specs.Suites.{suite}
 use Rattle.keyed.proofs.Suites.{suite_sha2}

@@ -1,8 +1,4 @@
-use native.Mathlib.Nat.{le_refl}
-use native.Mathlib.Omega.{arith}
-use lib.ListN.{length, take}
-use Prim.Native.Nat.{◌≤◌, ◌+◌, ◌*◌}
-use mathlib.Core.Path.{◌≡◌, ap, ◌∙◌}
+use Rattle.std.proofs.Common.{◌≡◌, ◌+◌, ◌*◌, ◌≤◌, length, take, ap, ◌∙◌, le_refl, arith}
 use Rattle.lists.specs.Lists.{flat}
 use Rattle.lists.proofs.Flats.{value_within}
 use Rattle.lists.proofs.Written.{written_start, written_more}

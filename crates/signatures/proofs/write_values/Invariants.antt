@@ -1,5 +1,5 @@
 -- The loop writes the values in their order.
-use lib.ListN.{get_or}
+use Rattle.std.proofs.Common.{get_or}
 use Rattle.lists.specs.Loops.{Written}
 use Rattle.rfc8391.specs.Address.{set_chain_address}
 use Rattle.rfc8391.specs.Wots.{chain}

@@ -1,13 +1,8 @@
 -- When one value is left, the L-tree is done.
-use native.Mathlib.Omega.{arith}
-use lib.Seq.{length-take-le}
-use lib.ListN.{length, take}
-use Prim.Native.Nat.{ℕ, ◌-◌, ◌+◌, ◌*◌, ◌/◌}
-use mathlib.Core.Path.{◌≡◌, sym, ap, ◌∙◌}
+use Rattle.std.proofs.Common.{◌≡◌, ℕ, ◌+◌, ◌-◌, ◌*◌, ◌/◌, length, take, sym, ap, ◌∙◌, arith, length-take-le, rules}
 use Rattle.lists.proofs.Fronts.{length-fronts, get_or-fronts}
 use Rattle.rfc8391.specs.Wots.{len}
 use Rattle.keyed.proofs.Suites.{seed_fits}
-use borrow.Author.Rules.{rules}
 use Rattle.tree.proofs.Rounds.{ltree_by}
 use Rattle.keyed.specs.Seeds.{suite_of, held_all, seed_of}
 use Rattle.lists.proofs.Turns.{turns_more}

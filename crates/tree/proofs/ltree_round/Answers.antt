@@ -1,8 +1,4 @@
-use native.Mathlib.Omega.{arith}
-use lib.ListN.{length, get_or, take}
-use Prim.Native.Nat.{◌-◌, ◌/◌, ◌*◌, ◌+◌}
-use mathlib.Core.Path.{◌≡◌, refl, ◌∙◌, ap}
-use borrow.Author.Rules.{rules}
+use Rattle.std.proofs.Common.{◌≡◌, ◌+◌, ◌-◌, ◌*◌, ◌/◌, [], length, get_or, take, refl, ap, ◌∙◌, arith, rules}
 use Rattle.tree.proofs.Rounds.{pair_by, round_even, round_odd}
 use Rattle.rfc8391.specs.declared.Address.{Address}
 use Rattle.keyed.specs.Seeds.{suite_of, seed_of}
@@ -11,7 +7,6 @@ use Rattle.rfc8391.specs.Address.{set_tree_height, set_tree_index}
 use Rattle.lists.proofs.Replacing.{replacing_start}
 use Rattle.lists.proofs.Fronts.{length-fronts, get_or-fronts, fronts_moved, fronts_replaced}
 use Rattle.lists.specs.Fronts.{fronts}
-use mathlib.Core.List.{[]}
 use Rattle.tree.proofs.ltree_round.Goals as goal
 
 pub loop-i-init : goal.loop-i-init

@@ -1,5 +1,5 @@
 -- The loop joins pairs in place; a last odd value moves up.
-use lib.ListN.{take}
+use Rattle.std.proofs.Common.{take}
 use Rattle.keyed.specs.Seeds.{suite_of, seed_of}
 use Rattle.rfc8391.specs.Xmss.{ltree_node}
 use Rattle.lists.specs.Fronts.{fronts}

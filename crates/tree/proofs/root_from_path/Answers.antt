@@ -1,11 +1,4 @@
-use native.Mathlib.Nat.{div-one, mul-zero, mul-suc, le_refl}
-use native.Mathlib.Numerals.{add-one}
-use native.Mathlib.Omega.{arith}
-use mathlib.Core.List.{List, []}
-use lib.ListN.{length, get_or, take, drop, length-drop}
-use lib.Seq.{drop-drop}
-use Prim.Native.Nat.{ℕ, ◌≤◌, ◌+◌, ◌*◌, ◌/◌}
-use mathlib.Core.Path.{◌≡◌, refl, sym, ◌∙◌, ap, ap₂}
+use Rattle.std.proofs.Common.{◌≡◌, ℕ, ◌+◌, ◌*◌, ◌/◌, ◌≤◌, List, [], length, get_or, take, drop, sym, refl, ap, ◌∙◌, ap₂, le_refl, mul-zero, mul-suc, div-one, add-one, arith, length-drop, drop-drop}
 use Rattle.tree.proofs.Joins.{node_read}
 use Rattle.lists.proofs.Flats.{value_within}
 use Rattle.keyed.specs.Seeds.{suite_of, held, seed_of}

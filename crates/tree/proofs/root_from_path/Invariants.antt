@@ -1,7 +1,5 @@
 -- After k turns of the loop, k nodes of the path are used.
-use Prim.Native.Nat.{◌*◌, ◌/◌, ◌^◌}
-use lib.ListN.{drop}
-use mathlib.Core.Path.{◌≡◌}
+use Rattle.std.proofs.Common.{◌≡◌, ◌*◌, ◌/◌, ◌^◌, drop}
 use Rattle.keyed.specs.Seeds.{suite_of, held, seed_of}
 use Rattle.rfc8391.specs.Xmss.{root_from_path}
 use Rattle.lists.specs.Lists.{parts}

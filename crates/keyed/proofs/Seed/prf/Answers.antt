@@ -1,9 +1,7 @@
 -- By the hash; in `Sha2` from the seed's hash value.
-use mathlib.Core.Path.{◌≡◌}
-use lib.ListN.{length}
+use Rattle.std.proofs.Common.{◌≡◌, length, rules}
 use Rattle.keyed.proofs.Blocks.{keyed_by_one}
 use Rattle.keyed.proofs.Suites.{only_sha2, prf_in_sha2}
-use borrow.Author.Rules.{rules}
 use Rattle.keyed.proofs.Seed.prf.Goals as goal
 
 pub returns : goal.returns

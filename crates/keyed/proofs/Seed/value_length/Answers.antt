@@ -1,5 +1,5 @@
 -- The length that the hash's types say is the suite's.
-use mathlib.Core.Path.{sym, ◌∙◌}
+use Rattle.std.proofs.Common.{sym, ◌∙◌}
 use Rattle.keyed.proofs.Suites.{suite_length}
 use Rattle.keyed.proofs.Seed.value_length.Goals as goal
 

@@ -1,6 +1,4 @@
-use native.Mathlib.Omega.{arith}
-use lib.ListN.{replicate}
-use mathlib.Core.Path.{refl}
+use Rattle.std.proofs.Common.{replicate, refl, arith}
 use Rattle.onetime.proofs.Ends.{chain_by}
 use Rattle.keyed.specs.Seeds.{suite_of}
 use Rattle.rfc8391.specs.Wots.{len, wots_pk}

@@ -1,7 +1,5 @@
 -- The material's values, and the node at the top of their tree.
-use Rattle.std.proofs.Common.{◌≡◌, refl, ap, ◌∙◌, take, drop, []}
-use lib.ListN.{get_or}
-use lib.Seq.{drop-drop}
+use Rattle.std.proofs.Common.{◌≡◌, [], get_or, take, drop, refl, ap, ◌∙◌, drop-drop}
 use Rattle.std.specs.Simd.{first_chunks}
 use Rattle.keyed.specs.Suites.{suite}
 use Rattle.keyed.proofs.Suites.{suite_sha2}

@@ -1,7 +1,5 @@
 -- The record's values are the four chunks behind its type.
-use Rattle.std.proofs.Common.{arith, ◌≡◌, ◌-◌, refl, take, drop, length}
-use lib.ListN.{length-drop}
-use lib.Seq.{drop-drop, take_all}
+use Rattle.std.proofs.Common.{◌≡◌, ◌-◌, length, take, drop, refl, arith, length-drop, take_all, drop-drop}
 use Rattle.std.specs.Simd.{first_chunks}
 use Rattle.records.specs.Records.{record_from}
 use Rattle.records.proofs.SecretKey.read.Goals as goal

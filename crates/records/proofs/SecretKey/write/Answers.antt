@@ -1,6 +1,5 @@
 -- The type, and the values behind it.
-use mathlib.Core.Path.{refl}
-use mathlib.Core.List.{append-nil}
+use Rattle.std.proofs.Common.{refl, append-nil}
 use Rattle.records.specs.Records.{record_bytes}
 use Rattle.records.proofs.SecretKey.write.Goals as goal
 

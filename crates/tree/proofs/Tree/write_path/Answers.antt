@@ -1,8 +1,4 @@
-use native.Mathlib.Omega.{arith}
-use lib.ListN.{length, take}
-use Prim.Native.Nat.{ℕ, ◌≤◌, ◌+◌, ◌*◌}
-use mathlib.Core.Path.{refl, ◌∙◌, ap}
-use borrow.Author.Rules.{rules}
+use Rattle.std.proofs.Common.{ℕ, ◌+◌, ◌*◌, ◌≤◌, length, take, refl, ap, ◌∙◌, arith, rules}
 use Rattle.lists.proofs.Written.{written_start, written_more}
 use Rattle.rfc8391.specs.Xmss.{sibling, auth_path}
 use Rattle.tree.proofs.Bounds.{sibling_within}

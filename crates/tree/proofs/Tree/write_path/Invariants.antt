@@ -1,5 +1,5 @@
 -- The loop writes the path's nodes in their order.
-use Prim.Native.Nat.{◌/◌, ◌^◌}
+use Rattle.std.proofs.Common.{◌/◌, ◌^◌}
 use Rattle.tree.specs.Keys.{leaves}
 use Rattle.keyed.specs.Seeds.{suite_of, seed_of}
 use Rattle.rfc8391.specs.Xmss.{sibling, node}
