@@ -72,9 +72,9 @@ module _ (material : List ℕ) (l : length material ≡ 96) where
       let z : ◌≡◌ {A = ℕ} 0 (suc (many [])) = ap many (sym e ∙ o.more) in
       omega arith
 
-  pub refusing_breaks : AlwaysKept (refusing_all (secret_for material)) (key_for material) → ⊥
+  pub refusing_all_breaks : AlwaysKept (refusing_all (secret_for material)) (key_for material) → ⊥
   unfolding run start mark_used bit_used
-  refusing_breaks kept = false≢true (((kept []).full refl).0 refl 0 (omega arith))
+  refusing_all_breaks kept = false≢true (((kept []).full refl).0 refl 0 (omega arith))
 
   pub marking_nothing_breaks : AlwaysKept (marking_nothing (secret_for material)) (key_for material) → ⊥
   unfolding run step call_of
