@@ -1,6 +1,6 @@
 // Lists as loops make them, by a rule on the index, part after part, turn after turn; and numbers in bytes.
 // Uses nothing. Definitions are in specs/, their laws in proofs/.
-// Every other crate stands on it.
+// Every crate but outcomes stands on it.
 
 #![tactic(auto)]
 

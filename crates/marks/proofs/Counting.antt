@@ -73,6 +73,10 @@ module _ (page : List ℕ) where
   unfolding count_of
   counted n e = tally_used (used page) (well_formed? page) n e
 
+  -- it has the place of every index
+  pub counted_place : (n i : ℕ) → count_of page ≡ Some n → i < 1024 → i / 8 < length page
+  counted_place n i e h = omega (arith, (counted n e).0.0)
+
   pub not_counted : count_of page ≡ None → WellFormed page → ⊥
   unfolding count_of
   not_counted e = tally_bad (used page) (well_formed? page) e

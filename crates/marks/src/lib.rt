@@ -118,6 +118,7 @@ pub fn reserve(page: &[u8], session: u32) -> Reserved
 }
 
 // Stores the pending index's mark where it is the first unused one. Storing it again changes nothing.
+#[tactic(auto, using(crate::proofs::Counting::counted_place))]
 fn store(page: &mut [u8], session: u32) -> Result<(), Refusal>
     ensures { mark_end (marked (number_of result) session) page.new ≡ mark_of page.old session }
 {

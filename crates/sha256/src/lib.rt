@@ -242,6 +242,7 @@ pub fn start() -> State
 }
 
 // The hash value after the whole blocks of m, from s on; bytes behind the last whole block are left out.
+#[tactic(auto, using(lists::proofs::Turns::turns_start), unfolding(crate::specs::Sha256::hashed))]
 pub fn absorb(s: State, m: &[u8]) -> State
     ensures { result ≡ hashed (length m.now / 64) s m.now }
 {

@@ -1,14 +1,9 @@
 -- Each answer, by the tests that lead to it.
-use Rattle.std.proofs.Common.{◌≡◌, ℕ, ◌-◌, ◌/◌, ◌<◌, ◌≤◌, List, length, sym, ◌∙◌, ⊎_elim, arith, rules}
+use Rattle.std.proofs.Common.{◌≡◌, sym, ◌∙◌, ⊎_elim, arith, rules}
 use Rattle.outcomes.specs.Refused.{number_of}
-use Rattle.marks.specs.Page.{WellFormed}
 use Rattle.marks.proofs.Counting.{counted, not_counted}
 use Rattle.marks.proofs.Answers.{next_unused, mark_damaged, mark_unfit, mark_next, mark_again}
 use Rattle.marks.proofs.store.Goals as goal
-
--- the place of the pending index is on the page
-place : (page : List ℕ) (s : ℕ) → WellFormed page → (s ≡ 0 → ⊥) → s ≤ 1024 → (s - 1) / 8 < length page
-place page s w z r = omega (arith, w.0)
 
 pub returns-in_err-n : goal.returns-in_err-n
 returns-in_err-n c =
@@ -21,20 +16,10 @@ returns-then-session-eq0 c =
     mark_unfit _ _ _ w.0 w.1
     (λ f. ⊎_elim (λ t. omega (arith, t, f.0.0)) (λ t. omega (arith, t.1, f.0.1)) c.then-session-eq0.either)
 
-pub bounds-page-place : goal.bounds-page-place
-bounds-page-place c =
-    let w = counted _ _ (sym c.count.ensures ∙ c.in_ok-n.ensures.ok_part) in
-    place _ _ w.0 c.if-session-eq0.false c.if-session-gt1024.false
-
 pub cleared-value-requires : goal.cleared-value-requires
 cleared-value-requires c =
     let w = counted _ _ (sym c.count.ensures ∙ c.in_ok-n.ensures.ok_part) in
     (omega arith, next_unused _ _ w.0 (w.1 ∙ c.if-n-i.true) (omega arith))
-
-pub bounds-page-place-then-n-i : goal.bounds-page-place-then-n-i
-bounds-page-place-then-n-i c =
-    let w = counted _ _ (sym c.count.ensures ∙ c.in_ok-n.ensures.ok_part) in
-    place _ _ w.0 c.if-session-eq0.false c.if-session-gt1024.false
 
 pub returns-then-n-i : goal.returns-then-n-i
 returns-then-n-i c =

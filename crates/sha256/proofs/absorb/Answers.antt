@@ -1,12 +1,8 @@
 use Rattle.std.proofs.Common.{◌≡◌, ℕ, ◌/◌, List, length, ap, ◌∙◌, arith}
 use Rattle.sha256.specs.Sha256.{block, compressed, hashed}
-use Rattle.lists.proofs.Turns.{turns_start, turns_more}
+use Rattle.lists.proofs.Turns.{turns_more}
 use Rattle.sha256.proofs.Blocks.{block_of_chunk}
 use Rattle.sha256.proofs.absorb.Goals as goal
-
-pub loop-bytes-init : goal.loop-bytes-init
-unfolding hashed
-loop-bytes-init c = turns_start _ _
 
 pub loop-bytes-preserved : goal.loop-bytes-preserved
 unfolding hashed
