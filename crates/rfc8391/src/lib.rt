@@ -191,6 +191,7 @@ pub fn key_type(number: u32) -> Option<KeyType>
     }
 }
 
+// In place: by `array::from_fn` the proof would have to follow what its closure holds through all 32 calls.
 pub fn xored(mut x: [u8; 32], y: [u8; 32]) -> [u8; 32]
     ensures { result ≡ xor 32 x y }
 {
