@@ -73,7 +73,7 @@ pub struct Latest<'a> {
 }
 
 impl<'a> Latest<'a> {
-    // A key or a message is kept, and a signature or what is no frame has an outcome.
+    // A key or a message is kept, and a signature or what is no frame has an outcome. The numbers of the kinds are read here alone.
     #[tactic(auto, unfolding(crate::specs::Frames::answer, crate::specs::Frames::framed))]
     fn answer(&mut self, line: Option<&[u8]>) -> Option<u32>
         requires { IfSome line (λ l. (length l.now ≤ self.old.key.room) × (length l.now ≤ self.old.message.room)) }
@@ -143,7 +143,7 @@ impl<'a> State<'a> {
         }
     }
 
-    // The end of a line, with what is told of it.
+    // The end of a line, with what is told of it. That it can still be counted is asked of each step: no state by itself is the last.
     #[tactic(auto, unfolding(lines::specs::Reading::closed))]
     fn close_line(&mut self) -> Option<u32>
         requires few { self.old.session.number + 1 < 2 ^ 64 }

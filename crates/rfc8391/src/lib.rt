@@ -95,7 +95,8 @@ impl Address {
         self
     }
 
-    // The address from which a key is derived, and those of the mask and of the right one of two.
+    // The address from which a key is derived, and those of the mask and of the right one of two: RFC 8391's selectors, which are hashed as
+    // numbers.
     pub fn for_key(self) -> Self
         ensures { result ≡ set_key_and_mask self 0 }
     {
@@ -167,7 +168,7 @@ pub struct KeyType {
     pub length: usize,
 }
 
-// The type with a number, where we know one.
+// The type with a number, where we know one. The numbers are those of RFC 8391's registry, and are read here alone.
 pub fn key_type(number: u32) -> Option<KeyType>
     ensures { result ≡ key_type number }
 {

@@ -32,7 +32,8 @@ fn join(s: Seed, a: Address, left: [u8; 32], right: [u8; 32]) -> [u8; 32]
     )
 }
 
-// One round over the first w values, in place: a pair's join is stored where no later pair reads.
+// One round over the first w values, in place: a pair's join is stored where no later pair reads. The array is as long as the longest, as
+// that of onetime's digits.
 fn ltree_round(s: Seed, a: Address, height: u32, mut v: [[u8; 32]; 67], w: usize) -> [[u8; 32]; 67]
     requires { w ≤ 67 }
     ensures { held_first s ((w + 1) / 2) result ≡ ltree_round (suite_of s) (seed_of s) a height (held_first s w v) }
