@@ -14,8 +14,3 @@ loop-j-preserved c =
     let e : j + 1 - from ≡ j - from + 1 = omega arith in
     let f : j ≡ from + (j - from) = omega arith in
     rw e (chain_more _ _ _ _ _ _ c.loop-j.invariant (rw f at c.chain_step-next.ensures))
-
-pub returns : goal.returns
-returns c =
-    let e : c.loop-j.j - c.args.from ≡ c.args.steps = omega arith in
-    rw e at c.loop-j.invariant

@@ -12,14 +12,6 @@ pub loop-k-init : goal.loop-k-init
 unfolding root_from_path
 loop-k-init c = (turns_start _ _, sym (div-one _), rw mul-zero refl)
 
-pub split_at-requires : goal.split_at-requires
-split_at-requires c =
-    let S = suite_of c.args.s in
-    let n = c.value_length-n in
-    let h : n.result * c.loop-k.k + n.result ≤ length c.args.path.now =
-    value_within S.n _ c.args.height c.loop-k.k _ n.ensures.0 (omega arith) (rw c.requires (le_refl (S.n * c.args.height))) in
-    rw (c.loop-k.invariant.2, length-drop) (omega (arith, h))
-
 pub loop-k-preserved : goal.loop-k-preserved
 unfolding root_from_path
 loop-k-preserved c =
