@@ -90,6 +90,7 @@ impl From<&[u8; 32]> for Head {
     fn from(head: &[u8; 32]) -> Self {
         let numbers: [u32; 8] = std::array::from_fn(|i| lists::big_endian(head, 4 * i));
         let [which, number, _, message, out, other_out, first, second] = numbers;
+        // Lengths by `as`, since std has no `From` of a u32 for usize.
         Self {
             which: Which::from(which),
             number,

@@ -17,7 +17,7 @@ use std::marker::Model;
 // What a line that is no frame is answered.
 const NO_FRAME: u32 = 12;
 
-// A text at the front of a buffer that the caller lends.
+// A text at the front of a buffer that the caller lends: a Vec would need a heap, which this project has not.
 #[derive(Drop)]
 pub struct Kept<'a> {
     pub buffer: &'a mut [u8],
@@ -174,7 +174,7 @@ impl<'a> State<'a> {
         None
     }
 
-    // Puts what is told of the line that ended last at the front of out.
+    // Puts what is told of the line that ended last at the front of out. Room is asked of each call: out is the caller's, not the state's.
     fn write_told(&self, told: Option<u32>, out: &mut [u8]) -> usize
         requires { 42 ≤ length out.old }
         ensures out_after { take result out.new ≡ says self.now.session.number told }

@@ -1,8 +1,8 @@
 // F, H, PRF and the message hash of RFC 8391 by the hash of a key type, a file a suite, and seeds that are prepared once.
 // Uses sha256 and rfc8391.
 // Everything that hashes uses it. A seed carries its hash, and contracts above speak of suite_of a seed: another hash changes nothing there.
-// Five functions match on the hash, which a key's type picks while the program runs. For one instance a trait would make Seed and every
-// function above generic.
+// Five functions match on the hash, which a key's type picks while the program runs. A trait would have one instance, and make Seed and
+// every function above generic.
 
 #![tactic(auto)]
 

@@ -15,7 +15,7 @@ fn after(s: State, a: [u8; 32], b: [u8; 32]) -> State
     sha256::absorb(s, &block)
 }
 
-// The keyed functions, by their numbers in RFC 8391, section 5.1.
+// The keyed functions, by their numbers in RFC 8391, section 5.1, which `as` gives.
 #[derive(Clone, Copy)]
 pub enum Function {
     F = 0,

@@ -50,8 +50,8 @@ fn byte(high: Half, low: Half) -> u8
 }
 
 // The line so far: len bytes at the front of a buffer that the caller lends, a high half that waits for its low half, and
-// whether it can no longer be read. So a line of any length needs no more than the buffer. `bad` is a field of its own: by
-// the definition `put_of` a line that went bad keeps its bytes and the half that waits.
+// whether it can no longer be read. So a line of any length needs no more than the buffer, where a Vec would need a heap.
+// `bad` is a field of its own: by the definition `put_of` a line that went bad keeps its bytes and the half that waits.
 #[derive(Drop)]
 pub struct Line<'a> {
     pub frame: &'a mut [u8],
@@ -122,7 +122,7 @@ impl<'a> Line<'a> {
     }
 }
 
-// Puts n in decimal and a last byte at the front of out, and answers where they end.
+// Puts n in decimal and a last byte at the front of out, and answers where they end: by the kit's io, which allocates nothing.
 pub fn write_number(out: &mut [u8], n: u64, last: u8) -> usize
     requires { 21 ≤ length out.old }
     ensures out_after { take result out.new ≡ decimal n ++ (last ∷ []) }
@@ -135,7 +135,7 @@ pub fn write_number(out: &mut [u8], n: u64, last: u8) -> usize
     k + 1
 }
 
-// A line of two numbers.
+// A line of two numbers. Room is asked of each call, since out is the caller's.
 pub fn write_two(out: &mut [u8], n: u64, m: u64) -> usize
     requires { 42 ≤ length out.old }
     ensures out_after { take result out.new ≡ numbers_line (n ∷ m ∷ []) }

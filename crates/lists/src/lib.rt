@@ -19,8 +19,8 @@ pub fn eight_words(words: [u32; 8]) -> [u8; 32]
     out
 }
 
-// The number in the four bytes of m from place at on: a word of a block, a key type, an index. A place, since each stands among what the
-// caller has beside it.
+// The number in the four bytes of m from place at on: a word of a block, a key type, an index. It takes a place, since what it reads stands
+// among other bytes.
 #[tactic(auto, using(crate::proofs::Methods::from_be_number))]
 pub fn big_endian(m: &[u8], at: usize) -> u32
     requires { at + 4 ≤ length m.now }

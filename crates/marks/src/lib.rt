@@ -44,7 +44,8 @@ fn byte_marks(b: u8) -> Option<u32>
     }
 }
 
-// The used marks of a page, where it is well formed: where a byte has some only if every byte before it is used up.
+// The used marks of a page, where it is well formed: where a byte has some only if every byte before it is used up. Here and below places are
+// cast by `as`: std has no `From` between usize and u32.
 pub fn count(page: &[u8]) -> Option<u32>
     ensures { result ≡ count_of page.now }
 {

@@ -14,7 +14,7 @@ ghost use Rattle.keyed.specs.Seeds.{suite_of, held, held_all, values_in, seed_of
 use keyed::Seed;
 use rfc8391::Address;
 
-// Digit i of bytes, two a byte, the high half first.
+// Digit i of bytes, two a byte, the high half first. It takes an index, since two digits share a byte.
 fn digit_at(x: &[u8], i: usize) -> u8
     requires { i < 2 * length x.now }
     ensures { result ≡ get_or x.now (i / 2) 0 / 16 ^ (1 - i % 2) % 16 }
@@ -71,8 +71,9 @@ pub struct Walked {
     pub value: [u8; 32],
 }
 
-// The steps from a position on, one after the other. `next` stands between, as the borrow checker covers no call whose result goes straight
-// into an array. A `fold` over the positions would do without it, but was not proved: the search finds nothing in its closure's calls.
+// The steps from a position on, one after the other. `next` stands between, as the borrow checker covers no call that takes an array by value
+// and whose result takes that array's place. A `fold` over the positions would do without it, but was not proved: the search finds nothing in
+// its closure's calls.
 pub fn walk(s: Seed, a: Address, x: [u8; 32], from: u32, steps: u32) -> Walked
     requires { from + steps ≤ 15 }
     ensures { held s result.value ≡ chain (suite_of s) (seed_of s) a (held s x) from steps }
@@ -114,6 +115,7 @@ pub fn ends_from(values: &[u8], s: Seed, a: Address, m: [u8; 32]) -> [[u8; 32]; 
 {
     let n = s.value_length();
     let d = digits_of(m, 2 * n);
+    // Chains are counted by a usize, and an address takes a u32: std has no `From` for that, here and below.
     // Each value is split off: of a loop over `chunks_exact(n)` a proof knows the parts so far, and not that a part is the value of chain c.
     let mut rest = values;
     let mut ends = [[0u8; 32]; 67];

@@ -1,5 +1,5 @@
 // Making, signing and checking: the answer for every input, and every byte of every buffer. Parameters are those of the functions that C
-// calls, one by one, and a type, a session and an outcome are C's numbers.
+// calls, one by one, and a type, a session and an outcome are C's numbers. Type 1 alone is made and signs.
 // Uses the refusals of outcomes, the page of marks, records and signatures.
 // The promises, the checking program and the library for C and C++ use it.
 

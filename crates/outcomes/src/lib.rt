@@ -25,6 +25,7 @@ pub enum Refusal {
 }
 
 impl Refusal {
+    // The variant's own number, which `as` gives.
     pub fn number(self) -> u32
         ensures { result ≡ refusal_number self }
     {

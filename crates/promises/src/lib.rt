@@ -281,7 +281,8 @@ pub struct Answer {
     pub session: u32,
 }
 
-// Runs one call of a history on real buffers: this ties histories to the code.
+// Runs one call of a history on real buffers: this ties histories to the code. The three calls take different arguments, so that closures in
+// place of the kind would have to take all of them.
 pub fn call(
     kind: Kind,
     secret: &[u8],

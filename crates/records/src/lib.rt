@@ -25,7 +25,8 @@ pub struct SecretKey {
 }
 
 impl SecretKey {
-    // The key that seed material gives, with the root of its tree.
+    // The key that seed material gives, with the root of its tree. Type 1 alone is made: RFC 8391's number, which record and public key hold as
+    // it is.
     pub fn made(material: &[u8]) -> Self
         requires { length material.now ≡ 96 }
         ensures { contents result ≡ made_record sha2 material.now }

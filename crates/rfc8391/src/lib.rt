@@ -34,8 +34,8 @@ impl Address {
         Self::default()
     }
 
-    // A word that is left from another type would change every key and mask below. The type is a number, as RFC 8391 hashes it: the
-    // contract answers for any, so that it is no enum.
+    // A word that is left from another type would change every key and mask below. The type is a number and no enum: RFC 8391
+    // hashes it, and the contract holds for any.
     pub fn set_type(self, x: u32) -> Self
         ensures { result ≡ set_type self x }
     {
@@ -95,8 +95,7 @@ impl Address {
         self
     }
 
-    // The address from which a key is derived, and those of the mask and of the right one of two: RFC 8391's selectors, which are hashed as
-    // numbers.
+    // The addresses of a key, of a mask, and of the right one of two masks: RFC 8391's selectors, which are hashed as numbers.
     pub fn for_key(self) -> Self
         ensures { result ≡ set_key_and_mask self 0 }
     {
@@ -168,7 +167,8 @@ pub struct KeyType {
     pub length: usize,
 }
 
-// The type with a number, where we know one. The numbers are those of RFC 8391's registry, and are read here alone.
+// The type with a number, where we know one. The numbers are those of RFC 8391's registry; a key that is checked has its
+// number read here alone.
 pub fn key_type(number: u32) -> Option<KeyType>
     ensures { result ≡ key_type number }
 {

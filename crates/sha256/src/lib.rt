@@ -91,7 +91,7 @@ pub struct State {
     pub h: u32,
 }
 
-// FIPS 180-4, 4.1.2: six functions by the document's names, which one function with three constants for four of them would hide.
+// FIPS 180-4, 4.1.2: six functions by the document's names. One function with three constants for the four sigmas would hide them.
 fn choose(x: u32, y: u32, z: u32) -> u32
     ensures { result ≡ Ch x y z }
 {
@@ -280,7 +280,8 @@ fn digest_of(s: State) -> [u8; 32]
     lists::eight_words([s.a, s.b, s.c, s.d, s.e, s.f, s.g, s.h])
 }
 
-// The hash of a message whose first `before` blocks led to the hash value s, and of which m is left.
+// The hash of a message whose first `before` blocks led to the hash value s, and of which m is left. A count of blocks is cast by `as`: std has
+// no `From` of a u32 for usize.
 pub fn finish(s: State, before: u32, m: &[u8]) -> [u8; 32]
     ensures { result ≡ finished s before m.now }
 {
@@ -306,7 +307,7 @@ pub fn joined(a: [u8; 32], b: [u8; 32]) -> [u8; 64]
     m
 }
 
-// What finish gives where half a block is left, as chain steps and addresses end: with its ending it is one block.
+// What finish gives where half a block is left, as with chain steps and addresses: with its ending it fills one block.
 pub fn finish_half(s: State, before: u32, m: [u8; 32]) -> [u8; 32]
     ensures { result ≡ finished s before m }
 {

@@ -39,7 +39,8 @@ fn write_values(out: &mut [u8], x: Secrets, m: [u8; 32])
 {
     let n = x.seed.value_length();
     let d = onetime::digits_of(m, 2 * n);
-    // By places, and not by `chunks_exact_mut`: what such parts are written is not known of the buffer once the loop is over.
+    // By places, and not by `chunks_exact_mut`: after such a loop nothing is known of what it wrote into the buffer. Chains are counted by a
+    // usize, and an address takes a u32: std has no `From` for that.
     for c in 0..2 * n + 3 {
         let k = c as u32;
         let at = n * c;

@@ -133,7 +133,8 @@ impl Tree {
         ensures { out.new ≡ flat (auth_path (suite_of self.seed) (seed_of self.seed) self.at (leaves self) height index) }
     {
         let n = self.seed.value_length();
-        // By places, and not by `chunks_exact_mut`: what such parts are written is not known of the buffer once the loop is over.
+        // By places, and not by `chunks_exact_mut`: after such a loop nothing is known of what it wrote into the buffer. A height goes to usize
+        // by `as`, and in `ltree_round` an index to u32: std has no `From` for either.
         for k in 0..height {
             let at = n * (k as usize);
             let other = self.node(k, (index >> k) ^ 1);
@@ -167,7 +168,8 @@ fn root_from_path(
     ensures { held s result ≡ root_from_path (suite_of s) (seed_of s) a height index (held s start) (values_in s height path.now) }
 {
     let n = s.value_length();
-    // Each node is split off: of a `zip` of the heights and `chunks_exact(n)` a proof knows the pairs so far, and not that a node is that of k.
+    // `next` is as in `ltree_root`. Each node is split off: of a `zip` of the heights and `chunks_exact(n)` a proof knows the pairs so far, and
+    // not that a node is that of k.
     let mut rest = path;
     let mut v = start;
     let mut position = index;
