@@ -4,31 +4,21 @@
 
 #![tactic(auto)]
 
-ghost use Rattle.std.specs.Prelude.{◌≡◌, ◌+◌, ◌≤◌, length};
+ghost use Rattle.std.specs.Prelude.{◌≡◌, ◌<◌, length, IfSome};
 
 const STDIN: i32 = 0;
 
 const STDOUT: i32 = 1;
 
 const LONGEST: usize = 65537;
-// Eight numbers of 4 bytes: which call, its type or session, what fills the out buffers, the message's length,
-// the lengths of two out buffers, and those of the two inputs that follow.
-const HEAD: usize = 32;
 // More than any type's signature, so that a buffer can be too long.
 const ROOM: usize = 2900;
 
-fn least(a: usize, b: usize) -> usize
-    ensures { (result ≤ a) × (result ≤ b) }
-{
-    if a < b { a } else { b }
-}
-
+// What is printed goes by the kit's io, which allocates nothing, and a write that fails ends nothing (docs/DECISIONS.md).
 fn print_bytes(bytes: &[u8]) {
     io::write_all(STDOUT, b" ");
-    let mut i = 0;
-    while i < bytes.len() {
-        io::print_hex(STDOUT, bytes[i] as u64, 2);
-        i += 1;
+    for byte in bytes {
+        io::print_hex(STDOUT, u64::from(*byte), 2);
     }
 }
 
@@ -37,198 +27,204 @@ fn print_buffer(bytes: &[u8]) {
     if bytes.len() <= 200 {
         print_bytes(bytes);
     } else {
-        let digest = sha256::hash(bytes);
-        print_bytes(&digest);
+        print_bytes(&sha256::hash(bytes));
     }
 }
 
 fn print_number(number: u32) {
     io::write_all(STDOUT, b" ");
-    io::print_decimal(STDOUT, number as u64);
-}
-
-fn end_line() {
-    io::write_all(STDOUT, b"\n");
-}
-
-// In each call the head begins at a place, the first input stands behind it, and the second goes from the middle to the end.
-fn make_into(input: &[u8], at: usize, middle: usize, secret: &mut [u8], key: &mut [u8])
-    requires { (at + 32 ≤ middle) × (middle ≤ length input.now) }
-{
-    let kind = lists::big_endian(input, at + 4);
-    let made = operations::make(kind, &input[at + HEAD..middle], secret, key);
-    io::write_all(STDOUT, b"make");
-    print_number(made.outcome);
-    print_buffer(secret);
-    print_buffer(key);
-}
-
-fn make(input: &[u8], at: usize, middle: usize)
-    requires { (at + 32 ≤ middle) × (middle ≤ length input.now) }
-{
-    let fill = input[at + 11];
-    let mut secret = [fill; ROOM];
-    let mut key = [fill; ROOM];
-    let n = least(lists::big_endian(input, at + 16) as usize, ROOM);
-    let m = least(lists::big_endian(input, at + 20) as usize, ROOM);
-    make_into(input, at, middle, &mut secret[0..n], &mut key[0..m]);
-}
-
-fn reserve(input: &[u8], at: usize, middle: usize)
-    requires { (at + 32 ≤ middle) × (middle ≤ length input.now) }
-{
-    let session = lists::big_endian(input, at + 4);
-    let reserved = marks::reserve(&input[at + HEAD..middle], session);
-    io::write_all(STDOUT, b"reserve");
-    print_number(reserved.outcome);
-    print_number(reserved.session);
-    print_number(reserved.place);
-    print_number(reserved.value as u32);
-}
-
-// The page is marked where it stands in the script.
-fn mark(input: &mut [u8], at: usize, middle: usize)
-    requires { (at + 32 ≤ middle) × (middle ≤ length input.old) }
-{
-    let session = lists::big_endian(input, at + 4);
-    let marked = marks::mark(&mut input[at + HEAD..middle], session);
-    io::write_all(STDOUT, b"mark");
-    print_number(marked.outcome);
-    print_number(marked.session);
-    print_buffer(&input[at + HEAD..middle]);
-}
-
-fn sign_into(input: &[u8], at: usize, middle: usize, end: usize, out: &mut [u8])
-    requires { (65537 ≤ at) × (at + 32 ≤ middle) × (middle ≤ end) × (end ≤ length input.now) }
-{
-    let session = lists::big_endian(input, at + 4);
-    let length = least(lists::big_endian(input, at + 12) as usize, LONGEST);
-    let signed = operations::sign(
-        &input[at + HEAD..middle],
-        &input[middle..end],
-        session,
-        &input[0..length],
-        out,
-    );
-    io::write_all(STDOUT, b"sign");
-    print_number(signed.outcome);
-    print_number(signed.session);
-    if signed.outcome == 0 {
-        print_bytes(out);
-    } else {
-        print_buffer(out);
-    }
-}
-
-fn sign(input: &[u8], at: usize, middle: usize, end: usize)
-    requires { (65537 ≤ at) × (at + 32 ≤ middle) × (middle ≤ end) × (end ≤ length input.now) }
-{
-    let fill = input[at + 11];
-    let mut out = [fill; ROOM];
-    let n = least(lists::big_endian(input, at + 16) as usize, ROOM);
-    sign_into(input, at, middle, end, &mut out[0..n]);
-}
-
-fn check(input: &[u8], at: usize, middle: usize, end: usize)
-    requires { (65537 ≤ at) × (at + 32 ≤ middle) × (middle ≤ end) × (end ≤ length input.now) }
-{
-    let length = least(lists::big_endian(input, at + 12) as usize, LONGEST);
-    let checked = operations::check(
-        &input[at + HEAD..middle],
-        &input[0..length],
-        &input[middle..end],
-    );
-    io::write_all(STDOUT, b"check");
-    print_number(checked.outcome);
-}
-
-fn hash(input: &[u8], at: usize, middle: usize)
-    requires { (at + 32 ≤ middle) × (middle ≤ length input.now) }
-{
-    let digest = sha256::hash(&input[at + HEAD..middle]);
-    io::write_all(STDOUT, b"hash");
-    print_bytes(&digest);
-}
-
-// Three digests in a row, without the first and with a new last one.
-fn moved_up(digests: [u8; 96], last: [u8; 32]) -> [u8; 96] {
-    let mut next = digests;
-    let mut i: usize = 0;
-    while i < 32 {
-        next[i] = digests[32 + i];
-        next[32 + i] = digests[64 + i];
-        next[64 + i] = last[i];
-        i += 1;
-    }
-    next
-}
-
-fn hash_three(digests: [u8; 96]) -> [u8; 32] {
-    sha256::hash(&digests)
+    io::print_decimal(STDOUT, u64::from(number));
 }
 
 // The Monte Carlo test of NIST's SHAVS: a thousand times the digest of the last three digests.
 fn monte_carlo(seed: [u8; 32]) -> [u8; 32] {
-    let mut last = seed;
-    let mut digests = moved_up(moved_up(moved_up([0u8; 96], seed), seed), seed);
-    let mut i: usize = 0;
-    while i < 1000 {
-        let digest = hash_three(digests);
-        let next = moved_up(digests, digest);
-        last = digest;
-        digests = next;
-        i += 1;
+    let mut digests = [seed; 3];
+    for _ in 0..1000 {
+        digests = [digests[1], digests[2], sha256::hash(digests.as_flattened())];
     }
-    last
+    digests[2]
 }
 
-fn hash_often(input: &[u8], at: usize, middle: usize)
-    requires { (at + 32 ≤ middle) × (middle ≤ length input.now) }
-{
-    io::write_all(STDOUT, b"hash_often");
-    if middle - at == 64 {
-        let digest = monte_carlo(rfc8391::value_of(&input[at + HEAD..middle]));
-        print_bytes(&digest);
-    }
+// Which call it is.
+#[derive(Clone, Copy)]
+enum Which {
+    Make,
+    Reserve,
+    Mark,
+    Sign,
+    Check,
+    Hash,
+    HashOften,
 }
 
-fn answer_reading(input: &[u8], at: usize, middle: usize, end: usize)
-    requires { (65537 ≤ at) × (at + 32 ≤ middle) × (middle ≤ end) × (end ≤ length input.now) }
-{
-    match lists::big_endian(input, at) {
-        1 => make(input, at, middle),
-        2 => reserve(input, at, middle),
-        4 => sign(input, at, middle, end),
-        6 => hash(input, at, middle),
-        7 => hash_often(input, at, middle),
-        _ => check(input, at, middle, end),
-    }
-}
-
-// Marking alone writes into the script.
-fn answer(input: &mut [u8], at: usize, middle: usize, end: usize)
-    requires { (65537 ≤ at) × (at + 32 ≤ middle) × (middle ≤ end) × (end ≤ length input.old) }
-{
-    if lists::big_endian(input, at) == 3 {
-        mark(input, at, middle);
-        return;
-    }
-    answer_reading(input, at, middle, end);
-}
-
-fn answer_all(input: &mut [u8]) {
-    let mut at = LONGEST;
-    while at < input.len() {
-        if input.len() - at < HEAD {
-            return;
+// A number that stands for nothing else stands for a check.
+impl From<u32> for Which {
+    fn from(number: u32) -> Self {
+        match number {
+            1 => Which::Make,
+            2 => Which::Reserve,
+            3 => Which::Mark,
+            4 => Which::Sign,
+            6 => Which::Hash,
+            7 => Which::HashOften,
+            _ => Which::Check,
         }
-        let first = lists::big_endian(input, at + 24) as usize;
-        let second = lists::big_endian(input, at + 28) as usize;
-        let middle = at + HEAD + least(first, input.len() - at - HEAD);
-        let end = middle + least(second, input.len() - middle);
-        answer(input, at, middle, end);
-        end_line();
-        at = end;
+    }
+}
+
+// The eight numbers of 4 bytes with which a call begins: which call, its type or session, what fills the out buffers (its last byte
+// alone), and the lengths of the message, of two out buffers and of the two inputs that follow.
+#[derive(Clone, Copy)]
+struct Head {
+    which: Which,
+    number: u32,
+    fill: u8,
+    message_len: usize,
+    out_len: usize,
+    other_out_len: usize,
+    first_len: usize,
+    second_len: usize,
+}
+
+impl From<&[u8; 32]> for Head {
+    fn from(head: &[u8; 32]) -> Self {
+        let numbers: [u32; 8] = std::array::from_fn(|i| lists::big_endian(head, 4 * i));
+        let [which, number, _, message, out, other_out, first, second] = numbers;
+        // Lengths by `as`, since std has no `From` of a u32 for usize.
+        Self {
+            which: Which::from(which),
+            number,
+            fill: head[11],
+            message_len: message as usize,
+            out_len: out as usize,
+            other_out_len: other_out as usize,
+            first_len: first as usize,
+            second_len: second as usize,
+        }
+    }
+}
+
+// A call with its inputs, and the text from which messages are taken. Marking alone writes, into the first input, where it stands.
+#[derive(Drop)]
+struct Call<'a> {
+    head: Head,
+    text: &'a [u8],
+    first: &'a mut [u8],
+    second: &'a [u8],
+}
+
+impl<'a> Call<'a> {
+    // The call with which a script begins, and the rest of the script; none where less than a head is left. An input that the script
+    // cuts short ends with it.
+    fn read(text: &'a [u8], script: &'a mut [u8]) -> Option<(Self, &'a mut [u8])>
+        ensures { IfSome result (λ p. length p.1.now < length script.old) }
+    {
+        let (head, inputs) = script.split_first_chunk_mut()?;
+        let head = Head::from(&*head);
+        let n = head.first_len.min(inputs.len());
+        let (first, inputs) = inputs.split_at_mut(n);
+        let n = head.second_len.min(inputs.len());
+        let (second, rest) = inputs.split_at_mut(n);
+        let call = Call {
+            head,
+            text,
+            first,
+            second,
+        };
+        Some((call, rest))
+    }
+
+    fn message(&self) -> &[u8] {
+        &self.text[..self.head.message_len.min(self.text.len())]
+    }
+
+    fn make(&self) {
+        let mut secret = [self.head.fill; ROOM];
+        let mut key = [self.head.fill; ROOM];
+        let secret = &mut secret[..self.head.out_len.min(ROOM)];
+        let key = &mut key[..self.head.other_out_len.min(ROOM)];
+        let made = operations::make(self.head.number, self.first, secret, key);
+        io::write_all(STDOUT, b"make");
+        print_number(made.outcome);
+        print_buffer(secret);
+        print_buffer(key);
+    }
+
+    fn reserve(&self) {
+        let reserved = marks::reserve(self.first, self.head.number);
+        io::write_all(STDOUT, b"reserve");
+        print_number(reserved.outcome);
+        print_number(reserved.session);
+        print_number(reserved.place);
+        print_number(u32::from(reserved.value));
+    }
+
+    fn mark(&mut self) {
+        let marked = marks::mark(self.first, self.head.number);
+        io::write_all(STDOUT, b"mark");
+        print_number(marked.outcome);
+        print_number(marked.session);
+        print_buffer(self.first);
+    }
+
+    fn sign(&self) {
+        let mut out = [self.head.fill; ROOM];
+        let out = &mut out[..self.head.out_len.min(ROOM)];
+        let signed = operations::sign(
+            self.first,
+            self.second,
+            self.head.number,
+            self.message(),
+            out,
+        );
+        io::write_all(STDOUT, b"sign");
+        print_number(signed.outcome);
+        print_number(signed.session);
+        if signed.outcome == 0 {
+            print_bytes(out);
+        } else {
+            print_buffer(out);
+        }
+    }
+
+    fn check(&self) {
+        let checked = operations::check(self.first, self.message(), self.second);
+        io::write_all(STDOUT, b"check");
+        print_number(checked.outcome);
+    }
+
+    fn hash(&self) {
+        io::write_all(STDOUT, b"hash");
+        print_bytes(&sha256::hash(self.first));
+    }
+
+    // Of any other length than a digest's there is nothing to print.
+    fn hash_often(&self) {
+        io::write_all(STDOUT, b"hash_often");
+        if let Some(seed) = self.first.as_array() {
+            print_bytes(&monte_carlo(*seed));
+        }
+    }
+
+    fn answer(&mut self) {
+        match self.head.which {
+            Which::Make => self.make(),
+            Which::Reserve => self.reserve(),
+            Which::Mark => self.mark(),
+            Which::Sign => self.sign(),
+            Which::Check => self.check(),
+            Which::Hash => self.hash(),
+            Which::HashOften => self.hash_often(),
+        }
+        io::write_all(STDOUT, b"\n");
+    }
+}
+
+fn answer_all(text: &[u8], script: &mut [u8]) {
+    let mut rest = script;
+    while let Some((mut call, behind)) = Call::read(text, rest) {
+        call.answer();
+        rest = behind;
     }
 }
 
@@ -242,5 +238,7 @@ fn zeros<const N: usize>() -> [u8; N]
 fn main() {
     let mut input = zeros::<524288>();
     let end = io::read_full(STDIN, &mut input);
-    answer_all(&mut input[..end]);
+    if let Some((text, calls)) = input[..end].split_at_mut_checked(LONGEST) {
+        answer_all(text, calls);
+    }
 }

@@ -4,40 +4,36 @@
 
 #![tactic(auto)]
 
+use frames::State;
+
 const STDIN: i32 = 0;
 
 const STDOUT: i32 = 1;
+
+// The longest frame, which may be kept as key or as message (frames/specs/Frames.antt).
+const FRAME: usize = 16384;
+
+// A line of output, of at most 42 bytes, for each of the 4,096 characters of a chunk.
+const OUT: usize = 42 * 4096;
 
 // Turns of 4,096 bytes, so that every run ends: 2^52 bytes, and never more lines than a u64 counts.
 const TURNS: u64 = 0x100_0000_0000;
 
 fn main() {
-    let mut frame = [0u8; 16384];
-    let mut key = [0u8; 16384];
-    let mut message = [0u8; 16384];
-    let mut out = [0u8; 172032];
+    let mut frame = [0u8; FRAME];
+    let mut key = [0u8; FRAME];
+    let mut message = [0u8; FRAME];
+    let mut out = [0u8; OUT];
     let mut chunk = io::buffer();
-    let mut cur = frames::start();
-    let mut turns = TURNS;
-    while turns > 0 {
+    let mut state = State::start(&mut frame, &mut key, &mut message);
+    for _ in 0..TURNS {
         let got = io::read_full(STDIN, &mut chunk);
         if got == 0 {
             break;
         }
-        let m = frames::take_chunk(
-            &chunk[..got],
-            &mut frame,
-            &mut key,
-            &mut message,
-            cur,
-            &mut out,
-        );
-        cur = m.state;
-        let n = m.n;
+        let n = state.take_chunk(&chunk[..got], &mut out);
         io::write_all(STDOUT, &out[..n]);
-        turns -= 1;
     }
-    let m = frames::end_input(&frame, &mut key, &mut message, cur, &mut out);
-    let n = m.n;
+    let n = state.end_input(&mut out);
     io::write_all(STDOUT, &out[..n]);
 }

@@ -1,6 +1,5 @@
 -- The customer's checking program, line by line, as a reader sees it.
-use Rattle.std.specs.Prelude.{List, [], ◌∷◌, ℕ, eqb}
-use Rattle.std.proofs.Math.Option.{Option, none, some}
+use Rattle.std.specs.Prelude.{Option, Some, None, List, [], ◌∷◌, ℕ, eqb}
 use Rattle.lists.specs.Lists.{pick}
 use Rattle.operations.specs.Check.{check_of}
 use Rattle.lines.specs.Lines.{lines_of}
@@ -29,9 +28,9 @@ framed s n first rest =
 
 -- what line n is answered: an empty line, and one that is not hexadecimal or too long, is no frame
 unfoldable pub answer : Latest → ℕ → Option (List ℕ) → Stepped Latest
-answer s n none = prints s n 12
-answer s n (some []) = prints s n 12
-answer s n (some (first ∷ rest)) = framed s n first rest
+answer s n None = prints s n 12
+answer s n (Some []) = prints s n 12
+answer s n (Some (first ∷ rest)) = framed s n first rest
 
 -- all that the program prints for an input: a frame has at most 16,384 bytes, key and message are empty at the start
 unfoldable pub output_of : List ℕ → List ℕ

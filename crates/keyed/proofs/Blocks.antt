@@ -1,9 +1,5 @@
 -- A keyed function from the hash value after its number and key, and after two more halves.
-use mathlib.Core.Path.{◌≡◌, sym, ap, ◌∙◌}
-use mathlib.Core.List.{List, [], ◌++◌, append-nil, append_assoc}
-use Prim.Native.Nat.{ℕ, ◌*◌}
-use native.Mathlib.Omega.{arith}
-use lib.ListN.{length, length-append}
+use Rattle.std.proofs.Common.{◌≡◌, ℕ, ◌*◌, List, [], ◌++◌, length, sym, ap, ◌∙◌, append_assoc, append-nil, arith, length-append}
 use Rattle.lists.specs.Bytes.{to_byte}
 use Rattle.lists.proofs.Numbers.{length-to_byte}
 use Rattle.sha256.specs.Sha256.{H₀, hashed, sha256}

@@ -1,10 +1,5 @@
 -- What each hash's suite gives, from what its own functions give: in `Sha2` all 32 bytes count.
-use mathlib.Core.Path.{◌≡◌, refl, sym, subst, ◌∙◌}
-use mathlib.Core.List.{List, ◌++◌}
-use Prim.Native.Nat.{ℕ, ◌≤◌}
-use native.Mathlib.Omega.{arith}
-use lib.ListN.{length, take}
-use lib.Seq.{take_all}
+use Rattle.std.proofs.Common.{◌≡◌, ℕ, ◌≤◌, List, ◌++◌, length, take, sym, refl, ◌∙◌, subst, arith, take_all}
 use Rattle.lists.specs.Bytes.{to_byte}
 use Rattle.rfc8391.specs.Suite.{Suite}
 use Rattle.rfc8391.specs.Xmss.{message_digest}
@@ -41,7 +36,6 @@ unfolding suite sha2 value_length
 suite_length Sha2 = refl
 
 pub seed_fits : (s : Seed) → (suite_of s).n ≤ 32
-unfolding suite_of
 seed_fits s = suite_fits s.hash
 
 all : (x : List ℕ) → length x ≡ 32 → take 32 x ≡ x

@@ -1,10 +1,5 @@
 -- What the step on characters writes is what answering line by line says: for every input, any chunks, room and answer.
-use mathlib.Core.Path.{◌≡◌, refl, sym, ap, ◌∙◌}
-use mathlib.Core.Bool.{Bool, true, false}
-use mathlib.Core.List.{List, [], ◌∷◌, ◌++◌, append_assoc, append-nil}
-use mathlib.Core.Option.{Option}
-use Prim.Native.Nat.{ℕ, ◌+◌}
-use lib.Dec.{eqb}
+use Rattle.std.proofs.Common.{◌≡◌, ℕ, ◌+◌, Bool, true, false, eqb, List, [], ◌∷◌, ◌++◌, Option, sym, refl, ap, ◌∙◌, append_assoc, append-nil}
 use Rattle.lists.specs.Lists.{pick, flat}
 use Rattle.lines.specs.Lines.{front, lines_of, content}
 use Rattle.lines.specs.Steps.{Stepped, stepped, run_of}

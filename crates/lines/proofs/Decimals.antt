@@ -1,12 +1,7 @@
 -- Decimal text is what the kit's `io` writes: the fewest digits that hold a number are as many as `places` counts.
-use mathlib.Core.Path.{◌≡◌, refl, ap, ◌∙◌}
-use mathlib.Core.Bool.{Bool, true, false}
-use Prim.Native.Nat.{ℕ, zero, suc, ◌-◌, ◌*◌, ◌/◌, ◌^◌, ◌≤◌, ◌<◌}
-use native.Mathlib.Nat.{pow-succ', pow-le-pow_right, le_antisymm, le_trans}
-use native.Mathlib.Decide.{dec_le}
-use native.Mathlib.Omega.{arith}
-use lib.Dec.{ltb, lit<, lit≤}
-use borrow.Author.Tests.{ltb-true, ltb-false}
+use Rattle.std.proofs.Common.{◌≡◌, ℕ, zero, suc, ◌-◌, ◌*◌, ◌/◌, ◌^◌, ◌<◌, ◌≤◌, Bool, true, false, ltb, refl, ap, ◌∙◌, le_trans, le_antisymm, arith, lit<, lit≤, ltb-false, ltb-true}
+use Rattle.std.proofs.Math.Nat.{pow-succ', pow-le-pow_right}
+use Rattle.std.proofs.Math.Decide.{dec_le}
 use Rattle.io.specs.Digits.{last_digits, IsDigitCount}
 use Rattle.lists.specs.Lists.{pick}
 use Rattle.lines.specs.Decimal.{places, decimal}

@@ -2,6 +2,5 @@
 pub mod Runs
 pub mod Contents
 pub mod Answers
-pub mod Puts
 pub mod Decimals
 pub mod Buffers

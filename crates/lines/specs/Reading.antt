@@ -1,45 +1,50 @@
 -- A program that answers lines, twice: as its reader sees it, line by line, and as a step on characters, which the code makes.
 -- Over the room for a line's bytes and over any answer, which takes a state, a line's number from 1 and its content.
-use Rattle.std.specs.Prelude.{Bool, true, false, ◌||◌, List, [], ◌∷◌, ◌++◌, ℕ, ◌+◌, ◌*◌, length, take, eqb, leb, ltb}
-use Rattle.std.proofs.Math.Option.{Option, none, some}
+use Rattle.std.specs.Prelude.{Bool, true, false, ◌||◌, Option, Some, None, is_some, List, [], ◌∷◌, ◌++◌, ℕ, ◌+◌, ◌*◌, length, take, eqb, leb}
+use Rattle.std.specs.Borrow.{MutBor}
 use Rattle.lists.specs.Lists.{pick}
 use Rattle.lines.specs.Lines.{hex_digit, content}
 use Rattle.lines.specs.Steps.{Stepped, stepped, after, chunked}
 use Rattle.lines.specs.declared.Line.{Line}
 
--- a line as it comes in: its bytes so far, a high half that waits for its low half (16: none waits), whether it can no longer be read
+-- a line as it comes in: its bytes so far, a high half that waits for its low half, whether it can no longer be read
 pub record Sofar : Type 0 where
   pub bytes : List ℕ
-  pub high : ℕ
+  pub high : Option ℕ
   pub bad : Bool
 
-abbrev pub sofar : List ℕ → ℕ → Bool → Sofar
+abbrev pub sofar : List ℕ → Option ℕ → Bool → Sofar
 sofar bytes high bad = record { bytes = bytes; high = high; bad = bad }
 
 -- a line that has not begun
 abbrev pub fresh : Sofar
-fresh = sofar [] 16 false
+fresh = sofar [] None false
 
 -- its numbers, whatever the buffer holds
-abbrev pub fresh_line : Line
-fresh_line = record { len = 0; high = 16; bad = false }
+abbrev pub fresh_line : MutBor (List ℕ) → Line
+fresh_line frame = record { frame = frame; len = 0; high = None; bad = false }
 
 -- what a buffer and a line's numbers stand for
-abbrev pub read : List ℕ → Line → Sofar
-read frame l = sofar (take l.len frame) l.high l.bad
+abbrev pub read : Line → Sofar
+read l = sofar (take l.len l.frame.now) l.high l.bad
 
--- one character more
+-- a half-byte more: it ends a byte where a high half waits, and else waits itself
+unfoldable pub joined : List ℕ → Option ℕ → ℕ → Sofar
+joined bytes None half = sofar bytes (Some half) false
+joined bytes (Some high) half = sofar (bytes ++ ((16 * high + half) ∷ [])) None false
+
+-- a character more, by the digit that it is; one that is none spoils the line
+unfoldable pub with_digit : Sofar → Option ℕ → Sofar
+with_digit l None = sofar l.bytes l.high true
+with_digit l (Some half) = joined l.bytes l.high half
+
+-- one character more; where no byte has room it spoils the line
 unfoldable pub put_of : ℕ → Sofar → ℕ → Sofar
-put_of room l c =
-    pick (l.bad || (leb 16 (hex_digit c) || leb room (length l.bytes)))
-    (sofar l.bytes l.high true)
-    (pick (leb 16 l.high)
-    (sofar l.bytes (hex_digit c) false)
-    (sofar (l.bytes ++ ((16 * l.high + hex_digit c) ∷ [])) 16 false))
+put_of room l c = pick (l.bad || leb room (length l.bytes)) (sofar l.bytes l.high true) (with_digit l (hex_digit c))
 
 -- what a line holds where it ends
 unfoldable pub held : Sofar → Option (List ℕ)
-held l = pick (l.bad || ltb l.high 16) none (some l.bytes)
+held l = pick (l.bad || is_some l.high) None (Some l.bytes)
 
 -- lines that ended, whether one has begun, that line so far, and the state of who answers
 pub record Session (A : Type 0) : Type 0 where

@@ -4,93 +4,143 @@
 
 #![tactic(auto)]
 
-ghost use Rattle.std.specs.Prelude.{◌≡◌, [], ◌∷◌, ◌++◌, ◌+◌, ◌≤◌, length, take};
+ghost use Rattle.std.specs.Prelude.{◌≡◌, [], ◌∷◌, ◌++◌, ◌+◌, ◌*◌, ◌≤◌, length, take, IfSome, option_copied};
 ghost use Rattle.lines.specs.Lines.{hex_digit};
 ghost use Rattle.lines.specs.Decimal.{decimal, numbers_line};
-ghost use Rattle.lines.specs.Reading.{fresh_line, read, put_of};
 
-// The line so far: len bytes in a buffer that the caller keeps, a high half that waits for its low half (16: none waits),
-// and whether it can no longer be read. So a line of any length needs no more than the buffer.
+use std::marker::Model;
+
+// Half a byte. In a clause it is its value.
 #[derive(Clone, Copy)]
-pub struct Line {
-    pub len: usize,
-    pub high: u8,
-    pub bad: bool,
+pub struct Half {
+    pub value: u8,
 }
 
-pub fn fresh_line() -> Line
-    ensures { result ≡ fresh_line }
-{
-    Line {
-        len: 0,
-        high: 16,
-        bad: false,
-    }
+impl Model for Half {
+    ghost use Rattle.std.specs.Prelude.{ℕ, ◌<◌};
+
+    ghost Value = { ℕ };
+
+    ghost view = { λ h. h.value };
+
+    ghost invariant = { λ h. h.value < 16 };
+
+    ghost inverse = { λ n. record { value = n } };
 }
 
 // A capital letter is no digit: one text has one spelling.
-fn digit(c: u8) -> u8
+#[tactic(auto, unfolding(crate::specs::Lines::hex_digit))]
+fn digit(c: u8) -> Option<Half>
     ensures { result ≡ hex_digit c }
 {
-    if 48 <= c && c <= 57 {
-        return c - 48;
+    match c {
+        b'0'..=b'9' => Some(Half { value: c - b'0' }),
+        b'a'..=b'f' => Some(Half {
+            value: c - b'a' + 10,
+        }),
+        _ => None,
     }
-    if 97 <= c && c <= 102 {
-        return c - 87;
-    }
-    16
 }
 
-// The line with one character more.
-pub fn put(frame: &mut [u8], l: Line, c: u8) -> Line
-    ensures result_after { read frame.new result ≡ put_of (length frame.old) (read frame.old l) c }
-    ensures len_in_bounds { l.len ≤ length frame.old → result.len ≤ length frame.old }
+// The byte of two halves.
+fn byte(high: Half, low: Half) -> u8
+    ensures { result ≡ 16 * high + low }
 {
-    let len = l.len;
-    let high = l.high;
-    let d = digit(c);
-    if l.bad || 16 <= d || frame.len() <= len {
-        return Line {
-            len,
-            high,
-            bad: true,
-        };
-    }
-    if 16 <= high {
-        return Line {
-            len,
-            high: d,
+    16 * high.value + low.value
+}
+
+// The line so far: len bytes at the front of a buffer that the caller lends, a high half that waits for its low half, and
+// whether it can no longer be read. So a line of any length needs no more than the buffer, where a Vec would need a heap.
+// `bad` is a field of its own: by the definition `put_of` a line that went bad keeps its bytes and the half that waits.
+#[derive(Drop)]
+pub struct Line<'a> {
+    pub frame: &'a mut [u8],
+    pub len: usize,
+    pub high: Option<Half>,
+    pub bad: bool,
+}
+
+impl<'a> Line<'a> {
+    ghost use Rattle.lines.specs.Reading.{fresh_line, read, put_of, held};
+
+    pub fn new(frame: &'a mut [u8]) -> Line<'a>
+        ensures { result ≡ fresh_line frame.entry }
+    {
+        Line {
+            frame,
+            len: 0,
+            high: None,
             bad: false,
-        };
+        }
     }
-    frame[len] = 16 * high + d;
-    Line {
-        len: len + 1,
-        high: 16,
-        bad: false,
+
+    // Begins a new line in the same buffer.
+    pub fn clear(&mut self)
+        ensures { self.new ≡ fresh_line self.old.frame }
+    {
+        self.len = 0;
+        self.high = None;
+        self.bad = false;
+    }
+
+    // One character more.
+    #[tactic(auto, unfolding(crate::specs::Reading::put_of, crate::specs::Reading::with_digit, crate::specs::Reading::joined))]
+    pub fn put(&mut self, c: u8)
+        ensures value { read self.new ≡ put_of (length self.old.frame.now) (read self.old) c }
+        ensures len_in_bounds { self.old.len ≤ length self.old.frame.now → self.new.len ≤ length self.old.frame.now }
+        ensures room { length self.new.frame.now ≡ length self.old.frame.now }
+        ensures same_reference { self.new.frame.ghost_name ≡ self.old.frame.ghost_name }
+    {
+        if self.bad || self.frame.len() <= self.len {
+            self.bad = true;
+            return;
+        }
+        let Some(half) = digit(c) else {
+            self.bad = true;
+            return;
+        };
+        match self.high {
+            None => self.high = Some(half),
+            Some(high) => {
+                self.frame[self.len] = byte(high, half);
+                self.len += 1;
+                self.high = None;
+            }
+        }
+    }
+
+    // What the line holds, if it ends here and can be read. A caller may have built it with any len.
+    #[tactic(auto, unfolding(crate::specs::Reading::held))]
+    pub fn held(&self) -> Option<&[u8]>
+        ensures value { option_copied result ≡ held (read self.now) }
+        ensures fits { IfSome result (λ b. length b.now ≤ length self.now.frame.now) }
+    {
+        if self.bad || self.high.is_some() {
+            return None;
+        }
+        Some(&self.frame[..self.len.min(self.frame.len())])
     }
 }
 
-// Puts n in decimal and a last byte into out from place at on, and answers where they end.
-pub fn write_number(out: &mut [u8], at: usize, n: u64, last: u8) -> usize
-    requires { at + 21 ≤ length out.old }
-    ensures out_after { take result out.new ≡ take at out.old ++ (decimal n ++ (last ∷ [])) }
-    ensures upper_bound { result ≤ at + 21 }
+// Puts n in decimal and a last byte at the front of out, and answers where they end: by the kit's io, which allocates nothing.
+pub fn write_number(out: &mut [u8], n: u64, last: u8) -> usize
+    requires { 21 ≤ length out.old }
+    ensures out_after { take result out.new ≡ decimal n ++ (last ∷ []) }
+    ensures upper_bound { result ≤ 21 }
 {
     let mut text = [0u8; 20];
     let k = io::decimal(n, &mut text);
-    let end = at + k;
-    out[at..end].copy_from_slice(&text[..k]);
-    out[end] = last;
-    end + 1
+    out[..k].copy_from_slice(&text[..k]);
+    out[k] = last;
+    k + 1
 }
 
-// A line of two numbers.
-pub fn write_two(out: &mut [u8], at: usize, n: u64, m: u64) -> usize
-    requires { at + 42 ≤ length out.old }
-    ensures out_after { take result out.new ≡ take at out.old ++ numbers_line (n ∷ m ∷ []) }
-    ensures upper_bound { result ≤ at + 42 }
+// A line of two numbers. Room is asked of each call, since out is the caller's.
+pub fn write_two(out: &mut [u8], n: u64, m: u64) -> usize
+    requires { 42 ≤ length out.old }
+    ensures out_after { take result out.new ≡ numbers_line (n ∷ m ∷ []) }
+    ensures upper_bound { result ≤ 42 }
 {
-    let next = write_number(out, at, n, 32);
-    write_number(out, next, m, 10)
+    let first = write_number(out, n, b' ');
+    first + write_number(&mut out[first..], m, b'\n')
 }

@@ -1,12 +1,7 @@
 -- What holds of every element that is read from a list, of the default past its end too.
-use mathlib.Core.List.{List, [], ◌∷◌, ◌++◌}
-use Prim.Native.Nat.{ℕ, zero, suc, ◌+◌, ◌<◌}
-use lib.ListN.{get_or, take, drop}
-use lib.Seq.{get_or-drop}
+use Rattle.std.proofs.Common.{ℕ, zero, suc, ◌<◌, List, [], ◌∷◌, ◌++◌, get_or, mod-lt, arith}
 use Rattle.lists.specs.Lists.{tab}
 use Rattle.lists.specs.Bytes.{Bytes, to_byte}
-use native.Mathlib.Nat.{mod-lt}
-use native.Mathlib.Omega.{arith}
 
 module _ {ℓ} {A : Type ℓ} (d : A) (P : A → Type 0) where
   -- of one element and of a list
@@ -25,17 +20,6 @@ module _ {ℓ} {A : Type ℓ} (d : A) (P : A → Type 0) where
   unfolding tab
   tab_all zero f pd h i = pd
   tab_all (suc n) f pd h i = append_all (tab n f) (f n ∷ []) (tab_all n f pd h) (cons_all (f n) [] (h n) (λ j. pd)) i
-
-  -- of a front
-  pub take_all_of : (n : ℕ) (l : List A) → P d → ((j : ℕ) → P (get_or l j d)) → (i : ℕ) → P (get_or (take n l) i d)
-  take_all_of zero l pd h i = pd
-  take_all_of (suc n) [] pd h i = pd
-  take_all_of (suc n) (x ∷ l) pd h zero = h 0
-  take_all_of (suc n) (x ∷ l) pd h (suc i) = take_all_of n l pd (λ j. h (suc j)) i
-
-  -- of what is left behind a front
-  pub drop_all_of : (n : ℕ) (l : List A) → ((j : ℕ) → P (get_or l j d)) → (i : ℕ) → P (get_or (drop n l) i d)
-  drop_all_of n l h i = rw get_or-drop (h (n + i))
 
 -- a number's bytes are bytes
 pub to_byte_bytes : (x n : ℕ) → Bytes (to_byte x n)

@@ -1,11 +1,5 @@
 -- A loop that fills an array by a rule, one place after the other: its start, a turn, its end.
-use mathlib.Core.Path.{◌≡◌, refl, sym, ap, ◌∙◌}
-use mathlib.Core.List.{List}
-use Prim.Native.Nat.{ℕ, ◌+◌, ◌<◌, ◌≤◌}
-use native.Mathlib.Numerals.{add-one}
-use native.Mathlib.Omega.{arith}
-use lib.ListN.{length, take, set, length-set}
-use lib.Seq.{take-suc-set, take_all}
+use Rattle.std.proofs.Common.{◌≡◌, ℕ, ◌+◌, ◌<◌, ◌≤◌, List, length, take, set, sym, refl, ap, ◌∙◌, add-one, arith, length-set, take_all, take-suc-set}
 use Rattle.lists.specs.Lists.{tab}
 use Rattle.lists.specs.Loops.{Filling}
 

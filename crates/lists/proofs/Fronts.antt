@@ -1,9 +1,6 @@
 -- Laws of fronts: lists of which the first n elements count, and loops that fill and replace such lists.
-use mathlib.Core.Path.{◌≡◌, refl, sym, ap, ◌∙◌}
-use mathlib.Core.List.{List, [], ◌∷◌}
-use Prim.Native.Nat.{ℕ, zero, suc, ◌+◌, ◌<◌}
-use lib.ListN.{length, get_or, take, set}
-use lib.Seq.{take-nil}
+use Rattle.std.proofs.Common.{◌≡◌, ℕ, zero, suc, ◌+◌, ◌<◌, List, [], ◌∷◌, length, get_or, take, set, sym, refl, ap, ◌∙◌}
+use Rattle.std.proofs.Math.Seq.{take-nil}
 use Rattle.lists.specs.Fronts.{fronts}
 use Rattle.lists.specs.Loops.{Filling, Replacing}
 use Rattle.lists.proofs.Filling.{filling_more}

@@ -1,12 +1,11 @@
 -- The laws of `lists`.
 pub mod Tabs
 pub mod Everywhere
-pub mod Repeats
 pub mod Flats
 pub mod Turns
 pub mod Filling
 pub mod Replacing
-pub mod Joining
 pub mod Written
 pub mod Numbers
+pub mod Methods
 pub mod Fronts

@@ -1,12 +1,9 @@
 -- Laws of numbers in bytes.
-use mathlib.Core.Path.{◌≡◌, refl, sym, ap, ap₂, ◌∙◌}
-use mathlib.Core.List.{List, [], ◌∷◌, ◌++◌}
-use Prim.Native.Nat.{ℕ, zero, suc, ◌+◌, ◌-◌, ◌*◌, ◌/◌, ◌%◌, ◌^◌, ◌<◌, ◌≤◌}
-use native.Mathlib.Nat.{le_refl, lt_of_lt_of_le, zero-add, add_assoc, mul-suc, div-eq_of_lt, div-one, mod-one, mul_assoc}
-use native.Mathlib.Omega.{arith}
-use lib.ListN.{length, get_or, take, drop, replicate, length-drop, get_or-append}
-use lib.Pow.{pow-add, pow_mono, field, mod-mod-pow, mod-pow-add, high, low, shr-shr}
-use lib.Seq.{get_or-append-add, take-suc, get_or-drop}
+use Rattle.std.proofs.Common.{◌≡◌, ℕ, zero, suc, ◌+◌, ◌-◌, ◌*◌, ◌/◌, ◌%◌, ◌^◌, ◌<◌, ◌≤◌, List, [], ◌∷◌, ◌++◌, length, get_or, take, drop, replicate, sym, refl, ap, ◌∙◌, ap₂, le_refl, lt_of_lt_of_le, add_assoc, mul_assoc, zero-add, mul-suc, div-one, arith, length-drop, get_or-drop, take-suc, get_or-append-add, pow_mono, pow-add, shr-shr}
+use Rattle.std.proofs.Math.Nat.{div-eq_of_lt, mod-one}
+use Rattle.std.proofs.Math.ListN.{get_or-append}
+use Rattle.std.proofs.Math.Pow.{field, mod-mod-pow, high, low}
+use Rattle.std.proofs.lemmas.Nat.{mod-pow-add}
 use Rattle.lists.specs.Bytes.{Bytes, to_byte, number}
 
 -- x in n bytes has n

@@ -1,11 +1,5 @@
 -- A loop that fills an array in place by a rule on what it held: its start, a turn, and what a turn still reads.
-use mathlib.Core.Path.{◌≡◌, refl, sym, ap, ◌∙◌}
-use mathlib.Core.List.{List}
-use Prim.Native.Nat.{ℕ, ◌+◌, ◌-◌, ◌<◌, ◌≤◌}
-use native.Mathlib.Numerals.{add-one}
-use native.Mathlib.Omega.{arith}
-use lib.ListN.{length, get_or, drop, set, length-set}
-use lib.Seq.{take-suc-set, drop-drop, drop-set-lt, get_or-drop}
+use Rattle.std.proofs.Common.{◌≡◌, ℕ, ◌+◌, ◌-◌, ◌<◌, ◌≤◌, List, length, get_or, drop, set, sym, refl, ap, ◌∙◌, add-one, arith, length-set, get_or-drop, drop-drop, take-suc-set, drop-set-lt}
 use Rattle.lists.specs.Lists.{tab}
 use Rattle.lists.specs.Loops.{Replacing}
 

@@ -1,13 +1,7 @@
 -- Laws of `tab`, the list by its rule.
-use mathlib.Core.Path.{◌≡◌, refl, sym, ap, ap₂, ◌∙◌}
-use mathlib.Core.List.{List, [], ◌∷◌, ◌++◌}
-use mathlib.Core.Logic.{⊎_elim}
-use Prim.Native.Nat.{ℕ, zero, suc, ◌+◌, ◌<◌, ◌≤◌}
-use native.Mathlib.Nat.{not-suc-le-zero, le_of_suc-le-suc, eq-or-lt_of_le}
-use native.Mathlib.Numerals.{add-one}
-use native.Mathlib.Omega.{arith}
-use lib.ListN.{length, take, get_or, length-append, get_or-append}
-use lib.Seq.{take-suc, take_all, take-append-le, get_or_at}
+use Rattle.std.proofs.Common.{◌≡◌, ℕ, zero, suc, ◌+◌, ◌<◌, ◌≤◌, List, [], ◌∷◌, ◌++◌, length, get_or, take, sym, refl, ap, ◌∙◌, ap₂, ⊎_elim, le_of_suc-le-suc, not-suc-le-zero, eq-or-lt_of_le, add-one, arith, length-append, take_all, take-suc}
+use Rattle.std.proofs.Math.ListN.{get_or-append}
+use Rattle.std.proofs.lemmas.List.{take-append-le, get_or_at}
 use Rattle.lists.specs.Lists.{tab}
 
 -- a list by its rule has as many elements as it says
@@ -32,12 +26,6 @@ unfolding tab
 tab_ext zero f g h = refl
 tab_ext (suc n) f g h =
     ap₂ (λ (t : List _) (x : _). t ++ (x ∷ [])) (tab_ext n f g (λ k q. h k (omega arith))) (h n (omega arith))
-
--- the same list from its first element on
-pub tab-cons {ℓ} : {A : Type ℓ} (n : ℕ) (f : ℕ → A) → tab (suc n) f ≡ f 0 ∷ tab n (λ k. f (suc k))
-unfolding tab
-tab-cons zero f = refl
-tab-cons (suc n) f = ap (λ (t : List _). t ++ (f (suc n) ∷ [])) (tab-cons n f)
 
 -- the front of a list is made by reading it
 pub tab-take {ℓ} : {A : Type ℓ} (l : List A) (d : A) (i : ℕ) → i ≤ length l → tab i (λ k. get_or l k d) ≡ take i l

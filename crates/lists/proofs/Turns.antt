@@ -1,9 +1,5 @@
 -- Laws of `turns`: a loop that carries a value from turn to turn.
-use mathlib.Core.Path.{◌≡◌, refl, ap, ◌∙◌}
-use Prim.Native.Nat.{ℕ, zero, suc, ◌+◌, ◌<◌}
-use native.Mathlib.Nat.{add-zero, add-suc}
-use native.Mathlib.Numerals.{add-one}
-use native.Mathlib.Omega.{arith}
+use Rattle.std.proofs.Common.{◌≡◌, ℕ, zero, suc, ◌+◌, ◌<◌, refl, ap, ◌∙◌, add-zero, add-suc, add-one, arith}
 use Rattle.lists.specs.Lists.{turns}
 
 -- before the first turn

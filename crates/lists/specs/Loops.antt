@@ -1,4 +1,4 @@
--- The invariants of loops that write: into an array by a rule, in place, from two lists side by side, into lent parts of a buffer.
+-- The invariants of loops that write: into an array by a rule, in place, into lent parts of a buffer.
 use Rattle.std.specs.Prelude.{◌≡◌, List, ◌++◌, ℕ, ◌+◌, ◌*◌, ◌≤◌, length, take, drop}
 use Rattle.lists.specs.Lists.{tab, flat}
 
@@ -9,10 +9,6 @@ Filling n f l i = (take i l ≡ tab i f) × (length l ≡ n) × (i ≤ n)
 -- l is l₀ with its first i places filled by the rule f, which may read l₀ from place i on
 abbrev pub Replacing {ℓ} : {A : Type ℓ} → (ℕ → A) → List A → List A → ℕ → Type ℓ
 Replacing f l₀ l i = (take i l ≡ tab i f) × (drop i l ≡ drop i l₀) × (length l ≡ length l₀)
-
--- of l, which has w places twice, the first i of either half are those of a and of b
-abbrev pub Joining {ℓ} : {A : Type ℓ} → ℕ → List A → List A → List A → ℕ → Type ℓ
-Joining w a b l i = (take i l ≡ take i a) × (take i (drop w l) ≡ take i b) × (length l ≡ w + w) × (i ≤ w)
 
 -- o is o₀ with f 0 .. f (c - 1), of w places each, written from place b on
 abbrev pub Written {ℓ} : {A : Type ℓ} → ℕ → ℕ → (ℕ → List A) → List A → List A → ℕ → Type ℓ

@@ -1,13 +1,7 @@
 -- The answers of reserving and marking by the tests that lead to them: one law a number.
-use mathlib.Core.Path.{◌≡◌, refl, ◌∙◌}
-use mathlib.Core.Bool.{false}
-use mathlib.Core.List.{List}
-use mathlib.Core.Logic.{inl, inr}
-use Prim.Native.Nat.{ℕ, ◌+◌, ◌-◌, ◌/◌, ◌%◌, ◌≤◌, ◌<◌}
-use native.Mathlib.Omega.{arith}
-use lib.ListN.{get_or, set}
-use borrow.Author.Tests.{eq-eqb, ne_eqb, le-ltb}
-use Rattle.outcomes.proofs.Outcomes.{outcome_at, outcome_none}
+use Rattle.std.proofs.Common.{◌≡◌, ℕ, ◌+◌, ◌-◌, ◌/◌, ◌%◌, ◌<◌, ◌≤◌, false, List, get_or, set, sym, refl, ◌∙◌, inl, inr, arith, le-ltb, eq-eqb, ne_eqb}
+use Rattle.outcomes.specs.Outcome.{outcome_of}
+use Rattle.outcomes.proofs.Outcomes.{outcome_at, outcome_none, exactly, unless_done, unless_refused}
 use Rattle.marks.specs.Page.{bit_used, mark_used, used, used_below, WellFormed, Serves, Fits, cleared, with_mark}
 use Rattle.marks.specs.Marking.{reserved, reserve_refusals, reserve_of, marked, mark_refusals, mark_end, mark_of}
 use Rattle.marks.proofs.Marks.{marks_are}
@@ -19,29 +13,44 @@ next_unused page n w e h = marks_are page 1024 w.1 n h ∙ le-ltb n (used_below 
 
 -- reserving, over any range of indices
 module _ (first end : ℕ) (page : List ℕ) (s : ℕ) where
-  pub reserve_malformed : (Serves first page → ⊥) → reserved 7 s 0 0 ≡ reserve_of first end page s
-  unfolding reserve_of reserve_refusals
-  reserve_malformed h = rw (outcome_at (reserve_refusals first end page s) 0 h)
+  pub reserve_damaged : (Serves first page → ⊥) → 7 ≡ outcome_of (reserve_refusals first end page s)
+  unfolding reserve_refusals
+  reserve_damaged h = sym (outcome_at (reserve_refusals first end page s) 0 h)
 
   -- of a page of the range with n used marks
   module _ (n : ℕ) (v : Serves first page) (e : used page ≡ n) where
-    pub reserve_pending : (s ≡ 0 → ⊥) → reserved 9 s 0 0 ≡ reserve_of first end page s
-    unfolding reserve_of reserve_refusals
-    reserve_pending h = rw (outcome_at (reserve_refusals first end page s) 1 (v, h))
+    pub reserve_pending : (s ≡ 0 → ⊥) → 9 ≡ outcome_of (reserve_refusals first end page s)
+    unfolding reserve_refusals
+    reserve_pending h = sym (outcome_at (reserve_refusals first end page s) 1 (v, h))
 
-    pub reserve_full : s ≡ 0 → end ≤ n → reserved 8 s 0 0 ≡ reserve_of first end page s
-    unfolding reserve_of reserve_refusals
-    reserve_full z h = rw (outcome_at (reserve_refusals first end page s) 2 (v, (z, omega arith)))
+    pub reserve_full : s ≡ 0 → end ≤ n → 8 ≡ outcome_of (reserve_refusals first end page s)
+    unfolding reserve_refusals
+    reserve_full z h = sym (outcome_at (reserve_refusals first end page s) 2 (v, (z, omega arith)))
 
-    pub reserve_done : s ≡ 0 → n < end → reserved 0 (n + 1) (n / 8) (cleared (get_or page (n / 8) 0) (n % 8)) ≡ reserve_of first end page s
-    unfolding reserve_of reserve_refusals
-    reserve_done z h = rw (outcome_none (reserve_refusals first end page s) (v, (z, (omega arith, tt))), e)
+    pub reserve_free : s ≡ 0 → n < end → 0 ≡ outcome_of (reserve_refusals first end page s)
+    unfolding reserve_refusals
+    reserve_free z h = sym (outcome_none (reserve_refusals first end page s) (v, (z, (omega arith, tt))))
+
+  -- what is known where nothing refuses
+  pub reserve_clear : 0 ≡ outcome_of (reserve_refusals first end page s) → WellFormed page × (used page < end)
+  unfolding reserve_refusals
+  reserve_clear e = let f = (exactly (reserve_refusals first end page s) refl).clear (sym e) in (f.0.0, f.1.1.0)
+
+  -- the answer, by the outcome
+  pub reserve_refused : (n : ℕ) → (n ≡ 0 → ⊥) → n ≡ outcome_of (reserve_refusals first end page s) → reserved n s 0 0 ≡ reserve_of first end page s
+  unfolding reserve_of
+  reserve_refused n z e = unless_refused _ (λ o. reserved o s 0 0) n _ z e
+
+  pub reserve_done : (n : ℕ) → used page ≡ n → 0 ≡ outcome_of (reserve_refusals first end page s)
+      → reserved 0 (n + 1) (n / 8) (cleared (get_or page (n / 8) 0) (n % 8)) ≡ reserve_of first end page s
+  unfolding reserve_of
+  reserve_done n e q = rw (← e) (unless_done _ (λ o. reserved o s 0 0) _ q)
 
 -- marking
 module _ (page : List ℕ) (s : ℕ) where
-  pub mark_malformed : (WellFormed page → ⊥) → mark_end (marked 7 s) page ≡ mark_of page s
+  pub mark_damaged : (WellFormed page → ⊥) → mark_end (marked 7 s) page ≡ mark_of page s
   unfolding mark_of mark_refusals
-  mark_malformed h = rw (outcome_at (mark_refusals page s) 0 h)
+  mark_damaged h = rw (outcome_at (mark_refusals page s) 0 h)
 
   -- of a page with n used marks
   module _ (n : ℕ) (w : WellFormed page) (e : used page ≡ n) where

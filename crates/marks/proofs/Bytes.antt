@@ -1,25 +1,20 @@
 -- The nine bytes that are in order, by tests of every byte and every bit.
-use mathlib.Core.Path.{◌≡◌, refl, ap}
-use mathlib.Core.Bool.{Bool, true, false, not, ◌||◌, beq, false≢true}
-use Prim.Native.Nat.{ℕ, ◌+◌, ◌-◌, ◌/◌, ◌%◌, ◌^◌, ◌≤◌, ◌<◌}
-use native.Mathlib.Nat.{div-eq_of_lt}
-use native.Mathlib.Decide.{dec_le}
-use native.Mathlib.Omega.{arith}
-use lib.Dec.{eqb, ltb}
-use lib.Count.{count_leading_zeros}
-use borrow.Author.Tests.{eqb-true, eqb-false}
+use Rattle.std.proofs.Common.{◌≡◌, ℕ, ◌+◌, ◌-◌, ◌/◌, ◌%◌, ◌^◌, ◌<◌, ◌≤◌, Bool, true, false, not, ◌||◌, eqb, ltb, refl, ap, arith, eqb-true}
+use Rattle.std.proofs.Math.Nat.{div-eq_of_lt}
+use Rattle.std.proofs.Math.Decide.{dec_le}
+use Rattle.std.specs.Int.Count.{count_leading_zeros}
 use Rattle.marks.specs.Page.{bit_used, cleared}
-use Rattle.marks.proofs.Tests.{all, all_at, all_of, beq_true, beq_same}
+use Rattle.std.proofs.lemmas.Bool.{agree_below, false≢true, eqb-false}
+use Rattle.marks.proofs.Tests.{agree_is, passes}
 
 -- of a byte's marks the first z are used
 abbrev firsts : ℕ → ℕ → Bool
-firsts b z = all (λ k. beq (bit_used b k) (ltb k z)) 8
+firsts b z = agree_below (bit_used b) (λ k. ltb k z) 8
 
 -- the marks of the byte with z used ones
 pub bits_are : (z k : ℕ) → z < 9 → k < 8 → bit_used (255 / 2 ^ z) k ≡ ltb k z
 unfolding bit_used
-bits_are z k hz hk =
-    beq_true _ _ (all_at (λ j. beq (bit_used (255 / 2 ^ z) j) (ltb j z)) 8 (all_at (λ y. firsts (255 / 2 ^ y) y) 9 refl z hz) k hk)
+bits_are z k hz hk = (agree_is (bit_used (255 / 2 ^ z)) (λ j. ltb j z) 8).0 (passes (λ y. firsts (255 / 2 ^ y) y) 9 refl z hz) k hk
 
 if_then : (a b : Bool) → (not a || b) ≡ true → a ≡ true → b ≡ true
 if_then true b e h = e
@@ -30,22 +25,22 @@ pub byte_is : (b z : ℕ) → b < 256 → z < 9 → ((k : ℕ) → k < 8 → bit
 unfolding bit_used
 byte_is b z hb hz h =
     let test : ℕ → ℕ → Bool = λ c y. not (firsts c y) || eqb c (255 / 2 ^ y) in
-    let t : test b z ≡ true = all_at (test b) 9 (all_at (λ c. all (test c) 9) 256 refl b hb) z hz in
-    eqb-true _ _ (if_then (firsts b z) _ t (all_of (λ k. beq (bit_used b k) (ltb k z)) 8 (λ k l. rw (h k l) (beq_same (ltb k z)))))
+    let t : test b z ≡ true = passes (test b) 9 (passes (λ c. agree_below (test c) (λ y. true) 9) 256 refl b hb) z hz in
+    eqb-true _ _ (if_then (firsts b z) _ t ((agree_is (bit_used b) (λ k. ltb k z) 8).1 h))
 
 -- its leading zeros are its used marks
 pub leading_is : (z : ℕ) → z < 9 → count_leading_zeros 8 (255 / 2 ^ z) ≡ z
 unfolding count_leading_zeros
-leading_is z h = eqb-true _ _ (all_at (λ y. eqb (count_leading_zeros 8 (255 / 2 ^ y)) y) 9 refl z h)
+leading_is z h = eqb-true _ _ (passes (λ y. eqb (count_leading_zeros 8 (255 / 2 ^ y)) y) 9 refl z h)
 
 -- with its first unused mark used, it is the next one
 pub next_byte : (k : ℕ) → k < 8 → cleared (255 / 2 ^ k) k ≡ 255 / 2 ^ (k + 1)
 unfolding cleared
-next_byte k h = eqb-true _ _ (all_at (λ j. eqb (cleared (255 / 2 ^ j) j) (255 / 2 ^ (j + 1))) 8 refl k h)
+next_byte k h = eqb-true _ _ (passes (λ j. eqb (cleared (255 / 2 ^ j) j) (255 / 2 ^ (j + 1))) 8 refl k h)
 
 -- the bit of mark k
 pub bit_is : (k : ℕ) → k < 8 → 128 / 2 ^ k ≡ 2 ^ (7 - k)
-bit_is k h = eqb-true _ _ (all_at (λ j. eqb (128 / 2 ^ j) (2 ^ (7 - j))) 8 refl k h)
+bit_is k h = eqb-true _ _ (passes (λ j. eqb (128 / 2 ^ j) (2 ^ (7 - j))) 8 refl k h)
 
 -- a byte whose mark k is unused has that bit
 pub has_bit : (b k : ℕ) → bit_used b k ≡ false → 2 ^ (7 - k) ≤ b

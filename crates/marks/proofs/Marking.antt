@@ -1,13 +1,6 @@
 -- Each number exactly by its conditions; marking changes one bit; the byte that reserving hands out is the one that marking stores.
-use mathlib.Core.Path.{◌≡◌, refl, sym, ap, subst, ◌∙◌}
-use mathlib.Core.List.{List}
-use Prim.Native.Nat.{ℕ, zero, suc, ◌+◌, ◌-◌, ◌/◌, ◌%◌, ◌<◌, ◌≤◌}
-use native.Mathlib.Decide.{dec_le}
-use native.Mathlib.Omega.{arith}
-use lib.ListN.{length-set}
-use lib.Seq.{get_or-set_other}
-use lib.Dec.{ltb}
-use borrow.Author.Tests.{lt-ltb, le-ltb}
+use Rattle.std.proofs.Common.{◌≡◌, ℕ, zero, suc, ◌+◌, ◌-◌, ◌/◌, ◌%◌, ◌<◌, ◌≤◌, ltb, List, sym, refl, ap, ◌∙◌, subst, arith, length-set, get_or-set_other, le-ltb, lt-ltb}
+use Rattle.std.proofs.Math.Decide.{dec_le}
 use Rattle.lists.specs.Bytes.{Bytes}
 use Rattle.outcomes.specs.Outcome.{outcome_of, unless}
 use Rattle.outcomes.proofs.Outcomes.{outcome_back, exactly}
@@ -18,7 +11,7 @@ use Rattle.marks.specs.Shown.{ReserveNumbers, MarkNumbers, OneMark, StoredByte}
 use Rattle.marks.proofs.Tests.{ltb_same}
 use Rattle.marks.proofs.Marks.{marks_are}
 use Rattle.marks.proofs.Pages.{page_marks, page_counted, page_is, page_next}
-use Rattle.marks.proofs.Answers.{reserve_done, mark_first, mark_again}
+use Rattle.marks.proofs.Answers.{reserve_free, reserve_done, mark_first, mark_again}
 
 -- the outcome of an answer is that of its list of refusals
 reserve_outcome : (first end : ℕ) (page : List ℕ) (s : ℕ) → (reserve_of first end page s).outcome ≡ outcome_of (reserve_refusals first end page s)
@@ -116,5 +109,5 @@ store_is_mark first end page s l b o =
     let f = (reserve_numbers first end page s).done.0 o in
     let w = f.0.0 in
     let h : used page < 1024 = omega (arith, f.2) in
-    subst (StoredByte page) (reserve_done first end page s (used page) f.0 refl f.1 f.2)
+    subst (StoredByte page) (reserve_done first end page s (used page) refl (reserve_free first end page s (used page) f.0 refl f.1 f.2))
     record { marking = sym (mark_first page (used page) w refl h); again = mark_twice page b w h }

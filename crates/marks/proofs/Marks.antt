@@ -1,16 +1,8 @@
 -- Marks in order are exactly those of which the first ones are used, and their number is the count.
-use mathlib.Core.Path.{◌≡◌, refl, sym, ap, ◌∙◌}
-use mathlib.Core.Bool.{Bool, true, false, cond, not, ◌&&◌, ◌||◌}
-use mathlib.Core.List.{List}
-use mathlib.Core.Logic.{◌↔◌, ⊎_elim}
-use Prim.Native.Nat.{ℕ, zero, suc, ◌≤◌, ◌<◌, min}
-use native.Mathlib.Nat.{eq-or-lt_of_le, le_of_suc-le-suc, not-suc-le-zero}
-use native.Mathlib.Omega.{arith}
-use lib.Dec.{eqb, ltb}
-use borrow.Author.Tests.{eq-eqb, eqb-true, lt-ltb, le-ltb, ltb-true, ltb-false}
+use Rattle.std.proofs.Common.{◌≡◌, ℕ, zero, suc, ◌<◌, ◌≤◌, min, Bool, true, false, cond, not, ◌&&◌, ◌||◌, eqb, ltb, ◌↔◌, List, sym, refl, ap, ◌∙◌, ⊎_elim, le_of_suc-le-suc, not-suc-le-zero, eq-or-lt_of_le, arith, ltb-false, ltb-true, le-ltb, lt-ltb, eq-eqb, eqb-true}
 use Rattle.marks.specs.Page.{mark_used, used_below, ordered_below, used, Ordered}
 use Rattle.marks.proofs.Ordered.{FirstUsed}
-use Rattle.marks.proofs.Tests.{and_left, and_right}
+use Rattle.std.proofs.lemmas.Bool.{and_parts}
 
 module _ (page : List ℕ) where
   pub used_le : (n : ℕ) → used_below page n ≤ n
@@ -31,7 +23,7 @@ module _ (page : List ℕ) where
   unfolding ordered_below used_below
   marks_are zero o i h = absurd (not-suc-le-zero h)
   marks_are (suc n) o i h =
-      go (mark_used page n) refl (marks_are n (and_left (ordered_below page n) _ o) i) (and_right (ordered_below page n) _ o)
+      go (mark_used page n) refl (marks_are n (and_parts _ _ o).0 i) (and_parts _ _ o).1
     where
       go : (t : Bool) → mark_used page n ≡ t → (i < n → mark_used page i ≡ ltb i (used_below page n)) →
           (not t || eqb (used_below page n) n) ≡ true → mark_used page i ≡ ltb i (cond t (suc (used_below page n)) (used_below page n))

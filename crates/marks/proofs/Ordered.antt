@@ -1,8 +1,5 @@
 -- Marks in order, as the laws speak of them.
-use mathlib.Core.Path.{◌≡◌}
-use mathlib.Core.List.{List}
-use Prim.Native.Nat.{ℕ, ◌-◌, ◌*◌, ◌/◌, ◌^◌, ◌<◌, min}
-use lib.Dec.{ltb}
+use Rattle.std.proofs.Common.{◌≡◌, ℕ, ◌-◌, ◌*◌, ◌/◌, ◌^◌, ◌<◌, min, ltb, List}
 use Rattle.lists.specs.Lists.{tab}
 use Rattle.marks.specs.Page.{mark_used}
 

@@ -1,5 +1,5 @@
 -- Counting, reserving and marking: refusals in the customer's order, and the answers.
-use Rattle.std.specs.Prelude.{List, [], ◌∷◌, ℕ, ◌+◌, ◌-◌, ◌/◌, ◌%◌, ◌^◌, get_or, eqb}
+use Rattle.std.specs.Prelude.{List, [], ◌∷◌, ℕ, ◌+◌, ◌-◌, ◌/◌, ◌%◌, ◌^◌, get_or, eqb, Option, Some, None}
 use Rattle.std.proofs.Math.Decide.{ℕ_discrete}
 use Rattle.std.specs.Int.Count.{count_leading_zeros}
 use Rattle.lists.specs.Lists.{pick}
@@ -7,22 +7,20 @@ use Rattle.outcomes.specs.Conditions.{is_not, unequal, or_more}
 use Rattle.outcomes.specs.Outcome.{Refusals, outcome_of, unless}
 use Rattle.marks.specs.Page.{used, WellFormed, Serves, Fits, cleared, with_mark}
 use Rattle.marks.specs.Decisions.{well_formed?, serves?, fits?}
-use Rattle.marks.specs.declared.Tally.{Tally}
-use Rattle.marks.specs.declared.Tally.TheVariants.{Used, Bad}
 use Rattle.marks.specs.declared.Reserved.{Reserved}
 use Rattle.marks.specs.declared.Marked.{Marked}
 
 -- the count n where what was counted is in order
-abbrev pub tally : {A : Type 0} → Dec A → ℕ → Tally
-tally (yes a) n = Used n
-tally (no a) n = Bad
+abbrev pub tally : {A : Type 0} → Dec A → ℕ → Option ℕ
+tally (yes a) n = Some n
+tally (no a) n = None
 
 -- the used marks of a byte are its leading zeros, where it is in order
-unfoldable pub byte_count : ℕ → Tally
+unfoldable pub byte_count : ℕ → Option ℕ
 byte_count b = tally (ℕ_discrete b (255 / 2 ^ count_leading_zeros 8 b)) (count_leading_zeros 8 b)
 
 -- the used marks of a page
-unfoldable pub count_of : List ℕ → Tally
+unfoldable pub count_of : List ℕ → Option ℕ
 count_of page = tally (well_formed? page) (used page)
 
 abbrev pub reserved : ℕ → ℕ → ℕ → ℕ → Reserved

@@ -1,11 +1,5 @@
 -- Chain steps, chain values and chain ends from what the calls give, over any suite. A value stands at the front of a longer list.
-use mathlib.Core.Path.{◌≡◌, sym, ap, ◌∙◌}
-use mathlib.Core.List.{List, []}
-use Prim.Native.Nat.{ℕ, ◌+◌, ◌-◌, ◌*◌, ◌<◌, ◌≤◌}
-use native.Mathlib.Nat.{zero-add}
-use native.Mathlib.Omega.{arith}
-use lib.ListN.{get_or, take, drop}
-use lib.Seq.{get_or-take}
+use Rattle.std.proofs.Common.{◌≡◌, ℕ, ◌-◌, ◌*◌, ◌<◌, ◌≤◌, List, [], get_or, take, drop, sym, ap, ◌∙◌, zero-add, get_or-take}
 use Rattle.lists.specs.Lists.{tab, parts}
 use Rattle.lists.proofs.Tabs.{tab_ext, get_or-tab}
 use Rattle.rfc8391.specs.Suite.{Suite, xor}
@@ -27,13 +21,6 @@ module _ (S : Suite) (seed : List ℕ) where
   -- what chain c of the values leads to, by the digits d
   unfoldable pub end_from : Address → List ℕ → List ℕ → ℕ → List ℕ
   end_from a d values c = chain S seed (set_chain_address a c) (take S.n (drop (S.n * c) values)) (get_or d c 0) (15 - get_or d c 0)
-
-  pub end_by : (a : Address) (d values : List ℕ) (c w : ℕ) (b : Address) (x : List ℕ) (k : ℕ) (r : List ℕ) → w ≡ S.n → b ≡ set_chain_address a c
-      → x ≡ take (w * c + w - w * c) (drop (w * c) values) → k ≡ get_or d c 0 → r ≡ chain S seed b x k (15 - k) → r ≡ end_from a d values c
-  unfolding end_from
-  end_by a d values c w b x k r e eb ex ek er =
-      let z : w * c + w - w * c ≡ w = omega arith in
-      rw (er, eb, ex, z, ek, e)
 
   -- a walk from the start, from what the calls give
   pub chain_by : (a b : Address) (x y : List ℕ) (j k : ℕ) (r : List ℕ) → b ≡ a → y ≡ x → k ≡ j → r ≡ chain S seed b y 0 k → r ≡ chain S seed a x 0 j

@@ -1,3 +1,3 @@
--- The laws by which `onetime` puts chains together, over any suite.
+-- The laws by which `onetime` puts digits and chains together, over any suite.
+pub mod Digits
 pub mod Ends
-pub mod Leaves

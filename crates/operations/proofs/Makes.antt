@@ -1,14 +1,13 @@
 -- Making's answer and buffers by the tests that lead to them: one law a number.
-use mathlib.Core.Path.{◌≡◌, ap, ap₂, ◌∙◌}
-use mathlib.Core.List.{List, ◌++◌}
-use Prim.Native.Nat.{ℕ}
-use lib.ListN.{length, take, drop}
+use Rattle.std.proofs.Common.{◌≡◌, ℕ, List, ◌++◌, length, ap, ◌∙◌, ap₂}
 use Rattle.outcomes.proofs.Outcomes.{unless_at, unless_none}
 use Rattle.lists.specs.Bytes.{to_byte}
 use Rattle.rfc8391.specs.Formats.{key_length, key_bytes}
 use Rattle.keyed.specs.Sha2.{sha2}
 use Rattle.records.specs.Keys.{made_record}
-use Rattle.records.specs.Records.{record_length, record_bytes, material_length, record_with}
+use Rattle.records.specs.Records.{SecretRecord, record_length, record_bytes, material_length}
+use Rattle.records.specs.Contents.{contents}
+use Rattle.records.specs.declared.SecretKey.{SecretKey}
 use Rattle.operations.specs.Make.{make_refusals, make_end, make_of}
 use Rattle.operations.specs.declared.Made.{Made}
 
@@ -28,12 +27,10 @@ module _ (t : ℕ) (material s k : List ℕ) where
   unfolding make_of make_refusals material_length record_length key_length sha2
   buffers_wrong e q n = unless_at _ (λ o. make_end (made o) s k) (make_refusals sha2 t material s k) 2 (e, (q, n))
 
-  pub makes : (s' k' root public : List ℕ) → length material ≡ 96 → t ≡ 1 → length s ≡ 132 → length k ≡ 68
-      → root ≡ (made_record sha2 material).root → public ≡ take 32 (drop 64 material) → s' ≡ record_bytes (record_with 32 1 material root)
-      → k' ≡ to_byte 1 4 ++ (root ++ public) → make_end (made 0) s' k' ≡ make_of t material s k
+  pub makes : (s' k' : List ℕ) (key : SecretKey) → length material ≡ 96 → t ≡ 1 → length s ≡ 132 → length k ≡ 68
+      → contents key ≡ made_record sha2 material → s' ≡ record_bytes (contents key) → k' ≡ to_byte 1 4 ++ (key.root ++ key.public)
+      → make_end (made 0) s' k' ≡ make_of t material s k
   unfolding make_of make_refusals material_length record_length key_length sha2 made_record key_bytes
-  makes s' k' root public e q ls lk er ep es ek =
-      ap₂ (make_end (made 0))
-      (es ∙ ap (λ (r : List ℕ). record_bytes (record_with 32 1 material r)) er)
-      (ek ∙ ap₂ (λ (r p : List ℕ). to_byte 1 4 ++ (r ++ p)) er ep)
+  makes s' k' key e q ls lk em es ek =
+      ap₂ (make_end (made 0)) (es ∙ ap record_bytes em) (ek ∙ ap (λ (r : SecretRecord). to_byte 1 4 ++ (r.root ++ r.public)) em)
       ∙ unless_none _ (λ o. make_end (made o) s k) (make_refusals sha2 t material s k) (e, (q, ((ls, lk), tt)))

@@ -1,11 +1,8 @@
 -- Signing's refusals by the tests that lead to each; and what no refusal says.
-use mathlib.Core.Path.{◌≡◌, refl, sym, ap, ◌∙◌}
-use mathlib.Core.List.{List}
-use Prim.Native.Nat.{ℕ, zero, suc, ◌-◌, ◌<◌, ◌≤◌}
-use lib.ListN.{length}
+use Rattle.std.proofs.Common.{◌≡◌, ℕ, ◌-◌, ◌<◌, ◌≤◌, List, length, sym, refl, ap, ◌∙◌}
 use Rattle.lists.specs.Bytes.{number}
-use Rattle.outcomes.specs.Outcome.{outcome_of, unless}
-use Rattle.outcomes.proofs.Outcomes.{outcome_at, outcome_none, exactly}
+use Rattle.outcomes.specs.Outcome.{outcome_of}
+use Rattle.outcomes.proofs.Outcomes.{outcome_at, outcome_none, exactly, unless_refused}
 use Rattle.rfc8391.specs.Formats.{path_start, signature_length, signature_bytes}
 use Rattle.keyed.specs.Sha2.{sha2}
 use Rattle.marks.specs.Page.{WellFormed}
@@ -59,13 +56,7 @@ module _ (secret page : List ℕ) (s : ℕ) (m out : List ℕ) where
   -- the answer, by the outcome
   pub sign_refused : (o : ℕ) → o ≡ outcome_of (sign_refusals sha2 secret page s m out) → (o ≡ 0 → ⊥) → sign_end (signed o s) out ≡ sign_of secret page s m out
   unfolding sign_of
-  sign_refused o e n = rw (← e) (go o n)
-    where
-      go : (o : ℕ) → (o ≡ 0 → ⊥)
-          → sign_end (signed o s) out ≡ unless o
-          (sign_end (signed 0 0) (signature_bytes (signed_by sha2 (record_from sha2.n secret) (s - 1) m))) (λ k. sign_end (signed k s) out)
-      go zero n = absurd (n refl)
-      go (suc o) n = refl
+  sign_refused o e n = unless_refused _ (λ k. sign_end (signed k s) out) o _ n e
 
   pub sign_done : (out' : List ℕ) → outcome_of (sign_refusals sha2 secret page s m out) ≡ 0
       → out' ≡ signature_bytes (signed_by sha2 (record_from 32 secret) (s - 1) m) → sign_end (signed 0 0) out' ≡ sign_of secret page s m out

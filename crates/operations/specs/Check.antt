@@ -1,5 +1,5 @@
 -- Checking: its refusals in the customer's order, and its answer. RFC 8391 has no limit on message and index; 4 and 5 are the customer's.
-use Rattle.std.specs.Prelude.{◌≡◌, List, [], ◌∷◌, ℕ, ◌^◌, length}
+use Rattle.std.specs.Prelude.{◌≡◌, List, [], ◌∷◌, ℕ, ◌^◌, length, None}
 use Rattle.lists.specs.Bytes.{number}
 use Rattle.outcomes.specs.Conditions.{is, is_not, unequal, over, or_more}
 use Rattle.outcomes.specs.Outcome.{Refusals, outcome_of}
@@ -7,7 +7,6 @@ use Rattle.rfc8391.specs.Suite.{Suite}
 use Rattle.rfc8391.specs.Xmss.{verify}
 use Rattle.rfc8391.specs.Formats.{value_length, key_from, signature_length, signature_from, type_of, hash_of, height_of, single_tree}
 use Rattle.rfc8391.specs.declared.Hash.{Hash}
-use Rattle.rfc8391.specs.declared.KeyType.TheVariants.{Unknown}
 use Rattle.keyed.specs.Suites.{suite}
 use Rattle.operations.specs.Decisions.{unknown?, verify?}
 use Rattle.operations.specs.declared.Checked.{Checked}
@@ -22,7 +21,7 @@ module _ (suites : Hash → Suite) where
   unfoldable pub check_refusals : List ℕ → List ℕ → List ℕ → Refusals
   check_refusals key m sig =
       (unequal (length key) 68, 1)
-      ∷ (is (type_of key ≡ Unknown) (unknown? (type_of key)), 2)
+      ∷ (is (type_of key ≡ None) (unknown? (type_of key)), 2)
       ∷ (unequal (length sig) (signature_length (value_length (hash_of (type_of key))) (height_of (type_of key))), 3)
       ∷ (over 65536 (length m), 4)
       ∷ (or_more (2 ^ height_of (type_of key)) (number sig 0 4), 5)

@@ -1,12 +1,12 @@
 -- Making a key pair: its refusals in the customer's order, its answer, and both buffers.
 use Rattle.std.specs.Prelude.{◌≡◌, List, [], ◌∷◌, ℕ, length}
+use Rattle.std.proofs.Math.Logic.Dec
 use Rattle.std.proofs.Math.Decide.{ℕ_discrete}
 use Rattle.outcomes.specs.Conditions.{is_not, unequal}
 use Rattle.outcomes.specs.Outcome.{Refusals, outcome_of, unless}
 use Rattle.rfc8391.specs.Suite.{Suite}
 use Rattle.rfc8391.specs.Formats.{key_length, key_bytes}
 use Rattle.keyed.specs.Sha2.{sha2}
-use Rattle.operations.specs.Decisions.{both?}
 use Rattle.records.specs.Records.{record_length, record_bytes, public_key, material_length}
 use Rattle.records.specs.Keys.{made_record}
 use Rattle.operations.specs.declared.Made.{Made}
@@ -18,7 +18,7 @@ module _ (S : Suite) where
       ∷ (unequal type 1, 2)
       ∷ (
         is_not ((length record_out ≡ record_length S.n) × (length key_out ≡ key_length S.n))
-            (both? (ℕ_discrete _ _) (ℕ_discrete _ _)),
+            (Dec.and (ℕ_discrete _ _) (ℕ_discrete _ _)),
         11,
       )
       ∷ []

@@ -1,5 +1,6 @@
 -- Signing: its refusals in the customer's order, its answer, and its buffer.
 use Rattle.std.specs.Prelude.{◌≡◌, List, [], ◌∷◌, ℕ, ◌-◌, ◌≤◌, length}
+use Rattle.std.proofs.Math.Logic.Dec
 use Rattle.std.proofs.Math.Decide.{ℕ_discrete, dec_le}
 use Rattle.lists.specs.Bytes.{number}
 use Rattle.outcomes.specs.Conditions.{is_not, unequal, over}
@@ -11,7 +12,6 @@ use Rattle.marks.specs.Page.{used, WellFormed}
 use Rattle.marks.specs.Decisions.{well_formed?}
 use Rattle.records.specs.Records.{record_length, record_from}
 use Rattle.records.specs.Keys.{signed_by}
-use Rattle.operations.specs.Decisions.{both?}
 use Rattle.operations.specs.declared.Signed.{Signed}
 
 -- session s has index s - 1 pending, its mark is stored, and no later one is used
@@ -26,7 +26,7 @@ module _ (S : Suite) where
       ∷ (over 65536 (length m), 4)
       ∷ (unequal (length out) (signature_length S.n 10), 11)
       ∷ (is_not (WellFormed page) (well_formed? page), 7)
-      ∷ (is_not (Stored page s) (both? (both? (dec_le 1 s) (dec_le s 1024)) (ℕ_discrete (used page) s)), 10)
+      ∷ (is_not (Stored page s) (Dec.and (Dec.and (dec_le 1 s) (dec_le s 1024)) (ℕ_discrete (used page) s)), 10)
       ∷ []
 
 -- what signing answers, and the buffer as it leaves it

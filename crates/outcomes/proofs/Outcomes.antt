@@ -1,13 +1,9 @@
 -- An outcome says exactly which condition is the first that holds: once, for every list of refusals.
-use mathlib.Core.Path.{◌≡◌, refl, sym, ap, ◌∙◌}
-use mathlib.Core.Bool.{Bool, true, false, not, ◌&&◌, false≢true}
-use mathlib.Core.List.{[], ◌∷◌}
-use mathlib.Core.Logic.{◌⊎◌, inl, inr, ⊎_elim, ◌↔◌}
-use Prim.Native.Nat.{ℕ, zero, suc, ◌≤◌}
-use native.Mathlib.Omega.{arith}
-use lib.Dec.{eqb, leb}
-use borrow.Author.Tests.{eqb-false, leb-true, not-true}
+use Rattle.std.proofs.Common.{◌≡◌, ℕ, zero, suc, ◌≤◌, Bool, true, false, not, ◌&&◌, eqb, leb, ◌⊎◌, ◌↔◌, [], ◌∷◌, sym, refl, ap, ◌∙◌, inl, inr, ⊎_elim, arith, leb-true}
+use Rattle.std.proofs.lemmas.Bool.{and_parts, false≢true, eqb-false, not-true}
 use Rattle.outcomes.specs.Conditions.{Condition}
+use Rattle.outcomes.specs.Refused.{refusal_number}
+use Rattle.outcomes.specs.declared.Refusal.{Refusal}
 use Rattle.outcomes.specs.Outcome.{Refusals, outcome_of, unless, decided, number_at, First, None, Exactly}
 
 decided_holds : (C : Condition) (n m : ℕ) → C.Holds → decided C.told n m ≡ n
@@ -47,14 +43,6 @@ found (x ∷ l) = go x.0.told (found l)
     go (inr f) (inl w) = inl (suc w.0, (f, w.1))
     go (inr f) (inr w) = inr (f, w)
 
-and_left : (a b : Bool) → (a && b) ≡ true → a ≡ true
-and_left true b e = refl
-and_left false b e = e
-
-and_right : (a b : Bool) → (a && b) ≡ true → b ≡ true
-and_right true b e = e
-and_right false b e = absurd (false≢true e)
-
 -- the number n stands at no place; and at no place but k
 abbrev pub absent : ℕ → Refusals → Bool
 absent n [] = true
@@ -66,12 +54,12 @@ only n (x ∷ l) zero = absent n l
 only n (x ∷ l) (suc k) = not (eqb x.1 n) && only n l k
 
 unlike : (x n : ℕ) (b : Bool) → (not (eqb x n) && b) ≡ true → x ≡ n → ⊥
-unlike x n b e = eqb-false x n (not-true (eqb x n) (and_left (not (eqb x n)) b e))
+unlike x n b e = eqb-false x n (not-true (eqb x n) (and_parts _ _ e).0)
 
 absent_at : (n : ℕ) (l : Refusals) → absent n l ≡ true → (k : ℕ) → First l k → number_at l k ≡ n → ⊥
 absent_at n [] a k f e = f
 absent_at n (x ∷ l) a zero f e = unlike x.1 n (absent n l) a e
-absent_at n (x ∷ l) a (suc k) f e = absent_at n l (and_right (not (eqb x.1 n)) (absent n l) a) k f.1 e
+absent_at n (x ∷ l) a (suc k) f e = absent_at n l (and_parts _ _ a).1 k f.1 e
 
 -- where no refusal has the number 0, the outcome says exactly which condition is the first that holds
 pub exactly : (l : Refusals) → absent 0 l ≡ true → Exactly l (outcome_of l)
@@ -88,7 +76,7 @@ only_at n [] k j u f e = f
 only_at n (x ∷ l) zero zero u f e = f
 only_at n (x ∷ l) zero (suc j) u f e = absurd (absent_at n l u j f.1 e)
 only_at n (x ∷ l) (suc k) zero u f e = absurd (unlike x.1 n (only n l k) u e)
-only_at n (x ∷ l) (suc k) (suc j) u f e = (f.0, only_at n l k j (and_right (not (eqb x.1 n)) (only n l k) u) f.1 e)
+only_at n (x ∷ l) (suc k) (suc j) u f e = (f.0, only_at n l k j (and_parts _ _ u).1 f.1 e)
 
 -- a number other than 0 that stands at place k alone is given only where the condition there is the first that holds
 pub outcome_back : (l : Refusals) (k n : ℕ) → (n ≡ 0 → ⊥) → only n l k ≡ true → outcome_of l ≡ n → First l k
@@ -107,10 +95,10 @@ at_most b (x ∷ l) = leb x.1 b && at_most b l
 pub outcome_most : (l : Refusals) (b : ℕ) → at_most b l ≡ true → outcome_of l ≤ b
 unfolding outcome_of
 outcome_most [] b e = omega arith
-outcome_most (x ∷ l) b e = go x.0.told (outcome_most l b (and_right (leb x.1 b) (at_most b l) e))
+outcome_most (x ∷ l) b e = go x.0.told (outcome_most l b (and_parts _ _ e).1)
   where
     go : (t : x.0.Holds ⊎ x.0.Fails) → outcome_of l ≤ b → decided t x.1 (outcome_of l) ≤ b
-    go (inl h) w = leb-true x.1 b (and_left (leb x.1 b) (at_most b l) e)
+    go (inl h) w = leb-true x.1 b (and_parts _ _ e).0
     go (inr f) w = w
 
 -- what an operation gives where the condition at place k is the first that holds, and where none holds
@@ -119,6 +107,21 @@ unless_at done refused l k f = ap (λ (o : ℕ). unless o done refused) (sym (ou
 
 pub unless_none : {A : Type 0} (done : A) (refused : ℕ → A) (l : Refusals) → None l → done ≡ unless (outcome_of l) done refused
 unless_none done refused l n = ap (λ (o : ℕ). unless o done refused) (sym (outcome_none l n))
+
+-- a refusal has a number
+pub numbered : (r : Refusal) → refusal_number r ≡ 0 → ⊥
+numbered r = grind arith
+
+-- the same by the number that is known
+pub unless_done : {A : Type 0} (done : A) (refused : ℕ → A) (o : ℕ) → 0 ≡ o → done ≡ unless o done refused
+unless_done done refused o e = rw (← e)
+
+pub unless_refused : {A : Type 0} (done : A) (refused : ℕ → A) (n o : ℕ) → (n ≡ 0 → ⊥) → n ≡ o → refused n ≡ unless o done refused
+unless_refused done refused n o z e = rw (← e) (go n z)
+  where
+    go : (n : ℕ) → (n ≡ 0 → ⊥) → refused n ≡ unless n done refused
+    go zero z = absurd (z refl)
+    go (suc k) z = refl
 
 -- a number other than 0 that stands at place k alone: given exactly when the condition there is the first that holds; and 0
 pub at_place : (l : Refusals) (k n : ℕ) → (n ≡ 0 → ⊥) → only n l k ≡ true → number_at l k ≡ n → (outcome_of l ≡ n) ↔ First l k

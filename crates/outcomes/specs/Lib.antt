@@ -1,3 +1,4 @@
 -- The definitions of `outcomes`.
 pub mod Conditions
 pub mod Outcome
+pub mod Refused

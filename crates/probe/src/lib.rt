@@ -11,7 +11,8 @@ ghost use Rattle.rfc8391.specs.House.{secrets};
 ghost use Rattle.rfc8391.specs.Xmss.{leaf_of};
 ghost use Rattle.rfc8391.specs.Formats.{single_tree};
 
-use rfc8391::{Address, Hash};
+use rfc8391::Hash;
+use tree::Tree;
 
 #[unsafe(no_mangle)]
 pub extern "C" fn zab_probe_sha256(m: &[u8], out: &mut [u8; 32])
@@ -27,10 +28,5 @@ pub extern "C" fn zab_probe_leaf(secret: &[u8; 32], public: &[u8; 32], i: u32, o
         ≡ leaf_of sha2 (take 32 public.now) single_tree
         (secrets sha2 (take 32 secret.now) (take 32 public.now) single_tree) i }
 {
-    *out = tree::leaf(
-        *secret,
-        keyed::prepare(Hash::Sha2, *public),
-        Address::single_tree(),
-        i,
-    );
+    *out = Tree::single(Hash::Sha2, *secret, *public).leaf(i);
 }

@@ -1,7 +1,5 @@
 -- One call on real buffers is what a history says of it.
-use mathlib.Core.Path.{◌≡◌, sym, ap}
-use mathlib.Core.List.{List}
-use Prim.Native.Nat.{ℕ}
+use Rattle.std.proofs.Common.{◌≡◌, ℕ, List, sym, ap}
 use Rattle.marks.specs.Marking.{reserve_of, mark_end, mark_of}
 use Rattle.marks.specs.declared.Marked.{Marked}
 use Rattle.marks.specs.declared.Reserved.{Reserved}

@@ -1,11 +1,5 @@
 -- The promises of checking hold of its list of refusals, over any suites.
-use mathlib.Core.Path.{◌≡◌, refl, sym, ◌∙◌}
-use mathlib.Core.List.{List}
-use mathlib.Core.Logic.{◌↔◌}
-use Prim.Native.Nat.{ℕ, ◌+◌, ◌*◌, ◌^◌, ◌<◌, ◌≤◌}
-use native.Mathlib.Nat.{mul_comm, mul-add}
-use native.Mathlib.Omega.{arith}
-use lib.ListN.{length}
+use Rattle.std.proofs.Common.{◌≡◌, ℕ, ◌+◌, ◌*◌, ◌^◌, ◌<◌, ◌≤◌, ◌↔◌, List, length, sym, refl, ◌∙◌, mul_comm, mul-add, arith}
 use Rattle.lists.specs.Bytes.{number}
 use Rattle.outcomes.specs.Outcome.{outcome_of}
 use Rattle.outcomes.proofs.Outcomes.{at_place, at_none, outcome_most}
@@ -14,7 +8,7 @@ use Rattle.rfc8391.specs.Xmss.{verify}
 use Rattle.rfc8391.specs.Formats.{value_length, path_start, signature_length, type_of, hash_of, height_of}
 use Rattle.rfc8391.specs.declared.Hash.{Hash}
 use Rattle.operations.specs.Check.{check_refusals}
-use Rattle.operations.proofs.Types.{key_size, served_as, known_is_served}
+use Rattle.operations.proofs.Types.{key_size, known_is_served}
 use Rattle.promises.specs.Checking.{SignatureFits, CheckNumbers, Accepted}
 
 not_over : (a b : ℕ) → (a ≤ b → ⊥) → b < a
@@ -92,14 +86,11 @@ module _ (suites : Hash → Suite) (key m sig : List ℕ) where
       bwd : Accepted suites key m sig → outcome_of (check_refusals suites key m sig) ≡ 0
       bwd a =
           let r = a.accepts in
-          let s = served_as (number key 0 4) r.hash r.height _ r.key_type in
+          let t = r.key_type in
           (at_none (check_refusals suites key m sig) refl).1 (
             r.key_length ∙ key_size r.hash,
             (
-              s.known,
-              (
-                rw (s.hash, s.height) r.sig_length,
-                (a.message, (rw s.height a.index, (rw (s.hash, s.height) r.valid, tt))),
-              ),
+              λ e. cc,
+              (rw t r.sig_length, (a.message, (rw t a.index, (rw t r.valid, tt)))),
             ),
           )

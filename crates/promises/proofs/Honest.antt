@@ -1,15 +1,11 @@
 -- What making writes is read back from its bytes, and what is signed with it is accepted under its key.
-use mathlib.Core.Path.{◌≡◌, refl, sym, ap, ap₂, subst, ◌∙◌}
-use mathlib.Core.List.{List}
-use Prim.Native.Nat.{ℕ, ◌-◌, ◌*◌, ◌^◌, ◌<◌, ◌≤◌}
-use native.Mathlib.Omega.{arith}
-use lib.ListN.{length, take, drop, length-append, length-take, length-drop}
+use Rattle.std.proofs.Common.{◌≡◌, ℕ, ◌-◌, ◌*◌, ◌^◌, ◌<◌, ◌≤◌, List, length, take, drop, sym, refl, ap, ◌∙◌, subst, ap₂, arith, length-append, length-drop, length-take}
 use Rattle.lists.specs.Bytes.{number}
 use Rattle.lists.proofs.Numbers.{length-to_byte}
 use Rattle.rfc8391.specs.Suite.{Suite, Value}
 use Rattle.rfc8391.specs.Xmss.{public_key_of, signature_with, signature_of}
 use Rattle.rfc8391.specs.House.{secret_value, secrets}
-use Rattle.rfc8391.specs.Formats.{value_length, key_bytes, path_start, signature_length, signature_bytes, served, key_type, single_tree, Accepts}
+use Rattle.rfc8391.specs.Formats.{value_length, key_bytes, path_start, signature_length, signature_bytes, served, key_type, single_tree, Accepts, hash_of, height_of}
 use Rattle.rfc8391.specs.declared.Hash.{Hash}
 use Rattle.rfc8391.specs.declared.Hash.TheVariants.{Sha2}
 use Rattle.rfc8391.proofs.Honest.{root_value}
@@ -23,7 +19,6 @@ use Rattle.records.proofs.Read.{RecordFits, record_read}
 use Rattle.records.specs.Keys.{secrets_of, made_record, signed_by}
 use Rattle.operations.specs.Check.{check_of}
 use Rattle.operations.specs.Sign.{SignEnd, sign_of}
-use Rattle.operations.proofs.Types.{served_as}
 use Rattle.promises.specs.Kept as kept
 use Rattle.promises.specs.Kept.{secret_for, key_for}
 use Rattle.promises.specs.History.{given}
@@ -97,11 +92,10 @@ module _ (material : List ℕ) (l : length material ≡ 96) where
       let x : number σ 0 4 ≡ i = ap (λ (s : List ℕ). number s 0 4) q ∙ signature_index sha2 (made_record sha2 material) i m h in
       let t : key_type 1 ≡ served a.hash a.height =
       ap key_type (sym (made_type sha2 sha2_n material l)) ∙ a.key_type in
-      let s = served_as 1 a.hash a.height _ t in
-      let ten : 10 ≡ a.height = s.height in
+      let ten : 10 ≡ a.height = ap height_of t in
       let small : number σ 0 4 < 2 ^ a.height = subst (λ (k : ℕ). number σ 0 4 < 2 ^ k) ten (omega arith) in
       let size : length σ ≡ 2500 =
-      a.sig_length ∙ ap₂ (λ (g : Hash) (k : ℕ). signature_length (value_length g) k) (sym s.hash) (sym ten) in
+      a.sig_length ∙ ap₂ (λ (g : Hash) (k : ℕ). signature_length (value_length g) k) (sym (ap hash_of t)) (sym ten) in
       record { size = size; checked = (accepted suite (key_for material) m σ).1 (record { accepts = a; message = w; index = small }) }
 
   -- what is signed with the record is the signature of the key that the material gives

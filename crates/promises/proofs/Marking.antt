@@ -1,11 +1,6 @@
 -- What reserving and marking leave as it was, and the index that reserving hands out, by their definitions.
-use mathlib.Core.Path.{◌≡◌, refl, sym, ap}
-use mathlib.Core.List.{List}
-use Prim.Native.Nat.{ℕ, zero, suc, ◌+◌, ◌-◌, ◌/◌, ◌%◌}
-use native.Mathlib.Decide.{ℕ_discrete}
-use native.Mathlib.Omega.{arith}
-use lib.Dec.{eqb}
-use lib.ListN.{get_or}
+use Rattle.std.proofs.Common.{◌≡◌, ℕ, zero, suc, ◌+◌, ◌-◌, ◌/◌, ◌%◌, eqb, List, get_or, sym, refl, ap, arith}
+use Rattle.std.proofs.Math.Decide.{ℕ_discrete}
 use Rattle.lists.specs.Lists.{pick}
 use Rattle.outcomes.specs.Outcome.{outcome_of, unless}
 use Rattle.marks.specs.Page.{used, cleared, with_mark}

@@ -1,9 +1,5 @@
 -- A key pair that making wrote keeps what is promised of histories.
-use mathlib.Core.Path.{◌≡◌, refl, sym, ap, subst}
-use mathlib.Core.List.{List}
-use Prim.Native.Nat.{ℕ, zero, suc}
-use native.Mathlib.Omega.{arith}
-use lib.ListN.{length}
+use Rattle.std.proofs.Common.{◌≡◌, ℕ, zero, suc, List, length, sym, refl, ap, subst, arith}
 use Rattle.outcomes.specs.Outcome.{outcome_of, unless}
 use Rattle.outcomes.proofs.Outcomes.{exactly}
 use Rattle.keyed.specs.Sha2.{sha2}

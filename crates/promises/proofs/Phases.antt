@@ -1,8 +1,5 @@
 -- What a history does to used marks, session and signatures, as the laws speak of it.
-use mathlib.Core.Path.{◌≡◌}
-use mathlib.Core.List.{List, ◌∷◌}
-use Prim.Native.Nat.{ℕ, suc, ◌+◌, ◌<◌, ◌≤◌}
-use lib.ListN.{length}
+use Rattle.std.proofs.Common.{◌≡◌, ℕ, suc, ◌+◌, ◌<◌, ◌≤◌, List, ◌∷◌, length}
 use Rattle.rfc8391.specs.Formats.{signature_bytes}
 use Rattle.keyed.specs.Sha2.{sha2}
 use Rattle.marks.proofs.Ordered.{page_of}

@@ -1,10 +1,6 @@
 -- What a restart does to marks and indices, by two properties that every step keeps.
-use mathlib.Core.Path.{◌≡◌, refl, sym, ap, ap₂, subst, ◌∙◌}
-use mathlib.Core.Bool.{true, false, false≢true}
-use mathlib.Core.List.{List, [], ◌∷◌, ◌++◌}
-use Prim.Native.Nat.{ℕ, suc, ◌+◌, ◌<◌, ◌≤◌}
-use native.Mathlib.Omega.{arith}
-use lib.ListN.{length}
+use Rattle.std.proofs.Common.{◌≡◌, ℕ, suc, ◌+◌, ◌<◌, ◌≤◌, true, false, List, [], ◌∷◌, ◌++◌, length, sym, refl, ap, ◌∙◌, subst, ap₂, arith}
+use Rattle.std.proofs.lemmas.Bool.{false≢true}
 use Rattle.keyed.specs.Sha2.{sha2}
 use Rattle.records.specs.Records.{record_from}
 use Rattle.marks.specs.Page.{mark_used}

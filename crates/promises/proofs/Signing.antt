@@ -1,8 +1,5 @@
 -- The promises of signing hold of its definition.
-use mathlib.Core.Path.{◌≡◌, refl, sym, subst, ◌∙◌}
-use mathlib.Core.List.{List}
-use Prim.Native.Nat.{ℕ, zero, suc, ◌-◌}
-use native.Mathlib.Omega.{arith}
+use Rattle.std.proofs.Common.{◌≡◌, ℕ, zero, suc, ◌-◌, List, sym, refl, ◌∙◌, subst, arith}
 use Rattle.outcomes.specs.Outcome.{outcome_of, unless}
 use Rattle.outcomes.proofs.Outcomes.{at_place, at_none, unless_outcome}
 use Rattle.rfc8391.specs.Formats.{path_start, signature_length, signature_bytes}

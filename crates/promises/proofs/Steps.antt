@@ -1,21 +1,15 @@
 -- What each step of a history does to a page of u used marks; so that a property which the four changes keep holds after every history.
-use mathlib.Core.Path.{◌≡◌, refl, sym, ap, ap₂, subst, ◌∙◌}
-use mathlib.Core.Bool.{true, false}
-use mathlib.Core.List.{List, [], ◌∷◌, ◌++◌}
-use mathlib.Core.Logic.{⊎_elim}
-use Prim.Native.Nat.{ℕ, zero, suc, ◌+◌, ◌-◌, ◌<◌, ◌≤◌}
-use native.Mathlib.Decide.{ℕ_discrete, dec_le}
-use native.Mathlib.Omega.{arith}
-use lib.ListN.{length}
+use Rattle.std.proofs.Common.{◌≡◌, ℕ, zero, suc, ◌+◌, ◌-◌, ◌<◌, ◌≤◌, true, false, List, [], ◌∷◌, ◌++◌, length, sym, refl, ap, ◌∙◌, subst, ap₂, ⊎_elim, arith}
+use Rattle.std.proofs.Math.Decide.{ℕ_discrete, dec_le}
 use Rattle.outcomes.specs.Outcome.{outcome_of}
 use Rattle.outcomes.proofs.Outcomes.{exactly}
 use Rattle.keyed.specs.Sha2.{sha2}
 use Rattle.marks.specs.Page.{used, WellFormed, Serves, Fits}
-use Rattle.marks.specs.Marking.{reserve_of, MarkEnd, mark_of}
+use Rattle.marks.specs.Marking.{reserve_refusals, reserve_of, MarkEnd, mark_of}
 use Rattle.marks.proofs.Ordered.{page_of}
 use Rattle.marks.specs.declared.Reserved.{Reserved}
 use Rattle.marks.proofs.Pages.{page_counted, page_next}
-use Rattle.marks.proofs.Answers.{reserve_pending, reserve_full, reserve_done, mark_unfit, mark_again, mark_first}
+use Rattle.marks.proofs.Answers.{reserve_pending, reserve_full, reserve_free, reserve_refused, reserve_done, mark_unfit, mark_again, mark_first}
 use Rattle.operations.specs.Sign.{Stored, sign_refusals, SignEnd, sign_of}
 use Rattle.operations.proofs.Signs as signing
 use Rattle.promises.specs.History.{first_index, end_index, honest, lent, Call, kind_of, call_of, Given, given, given_by, State, state, Step, whole, cut, restart, after_call, step, run, restarts}
@@ -46,14 +40,18 @@ module _ (u s : ℕ) (gs : List Given) (most : u ≤ 1024) where
 
   pub reserve_next : s ≡ 0 → u < 1024 → reserved_state u gs (reserve_of first_index end_index (page_of u) s) ≡ state (page_of u) (suc u) gs
   reserve_next z h =
-      ap (reserved_state u gs) (sym (reserve_done first_index end_index (page_of u) s u serves count z h))
+      ap (reserved_state u gs) (sym (reserve_done first_index end_index (page_of u) s u count (reserve_free first_index end_index (page_of u) s u serves count z h)))
       ∙ ap (λ (k : ℕ). state (page_of u) k gs) (omega arith)
 
+  reserve_refuses : (n : ℕ) → (n ≡ 0 → ⊥) → n ≡ outcome_of (reserve_refusals first_index end_index (page_of u) s) →
+      reserved_state u gs (reserve_of first_index end_index (page_of u) s) ≡ state (page_of u) s gs
+  reserve_refuses n z e = ap (reserved_state u gs) (sym (reserve_refused first_index end_index (page_of u) s n z e))
+
   reserve_none : s ≡ 0 → 1024 ≤ u → reserved_state u gs (reserve_of first_index end_index (page_of u) s) ≡ state (page_of u) s gs
-  reserve_none z h = ap (reserved_state u gs) (sym (reserve_full first_index end_index (page_of u) s u serves count z h))
+  reserve_none z h = reserve_refuses 8 (λ e. omega arith) (reserve_full first_index end_index (page_of u) s u serves count z h)
 
   reserve_held : (s ≡ 0 → ⊥) → reserved_state u gs (reserve_of first_index end_index (page_of u) s) ≡ state (page_of u) s gs
-  reserve_held n = ap (reserved_state u gs) (sym (reserve_pending first_index end_index (page_of u) s u serves count n))
+  reserve_held n = reserve_refuses 9 (λ e. omega arith) (reserve_pending first_index end_index (page_of u) s u serves count n)
 
   pub mark_stores : s ≡ suc u → u < 1024 → marked_state gs (mark_of (page_of u) s) ≡ state (page_of (suc u)) s gs
   mark_stores e h =

@@ -1,11 +1,10 @@
 -- What is promised of checking. Sizes and limits are those of the customer's paper; the rest is RFC 8391's.
-use Rattle.std.specs.Prelude.{◌≡◌, List, ◌↔◌, ℕ, ◌+◌, ◌*◌, ◌^◌, ◌<◌, ◌≤◌, length}
+use Rattle.std.specs.Prelude.{◌≡◌, List, ◌↔◌, ℕ, ◌+◌, ◌*◌, ◌^◌, ◌<◌, ◌≤◌, length, None}
 use Rattle.lists.specs.Bytes.{number}
 use Rattle.rfc8391.specs.Suite.{Suite}
 use Rattle.rfc8391.specs.Xmss.{recomputed_root}
 use Rattle.rfc8391.specs.Formats.{value_length, key_from, signature_from, type_of, hash_of, height_of, single_tree, Accepts}
 use Rattle.rfc8391.specs.declared.Hash.{Hash}
-use Rattle.rfc8391.specs.declared.KeyType.TheVariants.{Unknown}
 
 -- over a suite for each hash, of which the key's type takes its own
 module _ (suites : Hash → Suite) (key m sig : List ℕ) where
@@ -23,7 +22,7 @@ module _ (suites : Hash → Suite) (key m sig : List ℕ) where
   KeyFits = length key ≡ 68
 
   abbrev pub TypeUnknown : Type 0
-  TypeUnknown = type_of key ≡ Unknown
+  TypeUnknown = type_of key ≡ None
 
   -- index, r, chain values and path: 36 + (67 + h) * 32 where a value has 32 bytes
   abbrev pub SignatureFits : Type 0

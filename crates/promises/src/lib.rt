@@ -1,4 +1,6 @@
-// What is promised of each operation: a function takes its arguments, calls it, and ensures the customer's sentence on what came back.
+// What is promised of each operation: a function takes its arguments, calls it, and ensures the customer's sentence on what came back; one
+// without arguments states a law of all pages or histories, or the table. Functions that make the same call differ in what they promise, and
+// docs/PROMISES.md lists each by its name. Parameters are those of the exported function, which C hands over one by one.
 // Uses the operations and the page of marks.
 // It is the door by which a reader comes in (docs/PROMISES.md); the shams use it.
 
@@ -271,14 +273,16 @@ pub enum Kind {
     Signing,
 }
 
-// What a call of a history answers.
+// What a call of a history answers, whichever operation it is: the structs for C that have the same fields keep their names. A
+// `From` for each of the three would name the two fields once more than the arms of `call` do.
 #[derive(Clone, Copy)]
 pub struct Answer {
     pub outcome: u32,
     pub session: u32,
 }
 
-// Runs one call of a history on real buffers: this ties histories to the code.
+// Runs one call of a history on real buffers: this ties histories to the code. The three calls take different arguments, so that closures in
+// place of the kind would have to take all of them.
 pub fn call(
     kind: Kind,
     secret: &[u8],
@@ -291,25 +295,20 @@ pub fn call(
 {
     match kind {
         Kind::Reserving => {
-            let a = marks::reserve(page, session);
-            Answer {
-                outcome: a.outcome,
-                session: a.session,
-            }
+            let Reserved {
+                outcome,
+                session,
+                ..
+            } = marks::reserve(page, session);
+            Answer { outcome, session }
         }
         Kind::Marking => {
-            let a = marks::mark(page, session);
-            Answer {
-                outcome: a.outcome,
-                session: a.session,
-            }
+            let Marked { outcome, session } = marks::mark(page, session);
+            Answer { outcome, session }
         }
         Kind::Signing => {
-            let a = operations::sign(secret, page, session, message, out);
-            Answer {
-                outcome: a.outcome,
-                session: a.session,
-            }
+            let Signed { outcome, session } = operations::sign(secret, page, session, message, out);
+            Answer { outcome, session }
         }
     }
 }

@@ -1,4 +1,3 @@
 -- The laws of `records`.
-pub mod Pasted
 pub mod Made
 pub mod Read

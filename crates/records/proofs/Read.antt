@@ -1,9 +1,5 @@
 -- A secret record is read back from its bytes.
-use mathlib.Core.Path.{◌≡◌}
-use mathlib.Core.List.{List, [], ◌++◌, append-nil, append_assoc}
-use Prim.Native.Nat.{ℕ, ◌+◌, ◌*◌, ◌^◌, ◌<◌}
-use native.Mathlib.Omega.{arith}
-use lib.ListN.{length, take, drop, length-append}
+use Rattle.std.proofs.Common.{◌≡◌, ℕ, ◌+◌, ◌*◌, ◌^◌, ◌<◌, List, [], ◌++◌, length, take, drop, append_assoc, append-nil, arith, length-append}
 use Rattle.lists.specs.Bytes.{to_byte, number}
 use Rattle.lists.proofs.Numbers.{length-to_byte}
 use Rattle.rfc8391.proofs.Formats.{front-number, middle}

@@ -1,3 +1,4 @@
 -- The secret record, and what is made of it.
 pub mod Records
 pub mod Keys
+pub mod Contents

@@ -1,9 +1,5 @@
 -- The bytes of a key, and of a signature that was made with it, are accepted: over any suite, secret values and height.
-use mathlib.Core.Path.{◌≡◌, sym, ap, ◌∙◌}
-use mathlib.Core.List.{List, []}
-use Prim.Native.Nat.{ℕ, ◌+◌, ◌*◌, ◌^◌, ◌<◌}
-use native.Mathlib.Omega.{arith}
-use lib.ListN.{length, get_or, length-append}
+use Rattle.std.proofs.Common.{◌≡◌, ℕ, ◌+◌, ◌*◌, ◌^◌, ◌<◌, List, [], length, get_or, sym, ap, ◌∙◌, arith, length-append}
 use Rattle.lists.specs.Lists.{flat}
 use Rattle.lists.proofs.Tabs.{length-tab, tab-get_or}
 use Rattle.lists.proofs.Flats.{length-flat}

@@ -1,10 +1,5 @@
 -- Laws of chains, over any suite: walks compose, and signing and checking meet at the chain's end.
-use mathlib.Core.Path.{◌≡◌, refl, ap, ◌∙◌}
-use mathlib.Core.List.{List, []}
-use Prim.Native.Nat.{ℕ, zero, suc, ◌+◌, ◌-◌, ◌≤◌}
-use native.Mathlib.Nat.{add_assoc}
-use native.Mathlib.Omega.{arith}
-use lib.ListN.{get_or}
+use Rattle.std.proofs.Common.{◌≡◌, ℕ, zero, suc, ◌+◌, ◌-◌, ◌≤◌, List, [], get_or, refl, ap, ◌∙◌, add_assoc, arith}
 use Rattle.lists.specs.Lists.{turns}
 use Rattle.lists.proofs.Tabs.{tab_ext, get_or-tab}
 use Rattle.lists.proofs.Turns.{turns_more, turns_add, turns_ext}

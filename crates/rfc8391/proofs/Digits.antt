@@ -1,15 +1,7 @@
 -- Laws of digits and their sums, over the number of message digits.
-use mathlib.Core.Path.{◌≡◌, refl, sym, ap, ◌∙◌}
-use mathlib.Core.List.{List, [], ◌∷◌, ◌++◌}
-use Prim.Native.Nat.{ℕ, suc, ◌+◌, ◌-◌, ◌*◌, ◌/◌, ◌%◌, ◌^◌, ◌<◌, ◌≤◌}
-use native.Mathlib.Nat.{mod-lt}
-use native.Mathlib.Omega.{arith}
-use lib.ListN.{length, get_or, take, length-append, get_or-append}
-use lib.Seq.{get_or-append-add, get_or-take}
-use native.Mathlib.Numerals.{add-one}
-use Rattle.lists.specs.Lists.{tab}
+use Rattle.std.proofs.Common.{◌≡◌, ℕ, suc, ◌+◌, ◌-◌, ◌*◌, ◌/◌, ◌%◌, ◌^◌, ◌<◌, ◌≤◌, List, [], ◌∷◌, ◌++◌, length, get_or, take, refl, ap, ◌∙◌, mod-lt, add-one, arith, get_or-take, take-suc}
 use Rattle.lists.specs.Bytes.{to_byte}
-use Rattle.lists.proofs.Tabs.{length-tab, get_or-tab, tab_ext}
+use Rattle.lists.proofs.Tabs.{length-tab, tab_ext}
 use Rattle.lists.proofs.Everywhere.{append_all, tab_all}
 use Rattle.rfc8391.specs.Wots.{base_w, checksum, total, digits}
 
@@ -18,13 +10,8 @@ pub length-base_w : (x : List ℕ) (k : ℕ) → length (base_w x k) ≡ k
 unfolding base_w
 length-base_w x k = length-tab k _
 
--- a value of k digits has three more, of its checksum
-pub length_digits : (k : ℕ) (m : List ℕ) → length (digits k m) ≡ k + 3
-unfolding digits
-length_digits k m = simp (length-append, length-base_w)
-
 -- every digit is at most 15
-base_w_small : (x : List ℕ) (k i : ℕ) → get_or (base_w x k) i 0 ≤ 15
+pub base_w_small : (x : List ℕ) (k i : ℕ) → get_or (base_w x k) i 0 ≤ 15
 unfolding base_w
 base_w_small x k i =
     tab_all 0 (λ d. d ≤ 15) k _ (omega arith) (λ j. let h : get_or x (j / 2) 0 / 16 ^ (1 - j % 2) % 16 < 16 = mod-lt _ (omega arith) in omega arith) i
@@ -42,21 +29,9 @@ checksum_append [] r = omega arith
 checksum_append (d ∷ l) r = rw (checksum_append l r) (omega arith)
 
 -- one digit more in the checksum
-pub checksum_more : (x : List ℕ) (k : ℕ) → checksum (base_w x (k + 1)) ≡ checksum (base_w x k) + (15 - get_or x (k / 2) 0 / 16 ^ (1 - k % 2) % 16)
-unfolding base_w tab checksum
-checksum_more x k = rw add-one (checksum_append (base_w x k) _ ∙ omega arith)
-
--- a digit of the value, and one of the checksum
-pub digit_of_value : (k : ℕ) (m c : List ℕ) (i : ℕ) → i < k → get_or (base_w m k ++ base_w c 3) i 0 ≡ get_or m (i / 2) 0 / 16 ^ (1 - i % 2) % 16
-unfolding base_w
-digit_of_value k m c i h = get_or-append (base_w m k) (base_w c 3) 0 i (rw length-base_w h) ∙ get_or-tab k _ 0 i h
-
-pub digit_of_checksum : (k : ℕ) (m c : List ℕ) (i j : ℕ) → i ≡ k + j → j < 3
-    → get_or (base_w m k ++ base_w c 3) i 0 ≡ get_or c (j / 2) 0 / 16 ^ (1 - j % 2) % 16
-unfolding base_w
-digit_of_checksum k m c i j e h =
-    rw e (ap (λ (l : ℕ). get_or (base_w m k ++ base_w c 3) (l + j) 0) (sym (length-base_w m k)) ∙ get_or-append-add (base_w m k)
-    (base_w c 3) j 0 ∙ get_or-tab 3 _ 0 j h)
+pub checksum_more : (l : List ℕ) (i : ℕ) → i < length l → checksum (take (i + 1) l) ≡ checksum (take i l) + (15 - get_or l i 0)
+unfolding checksum
+checksum_more l i h = rw (add-one, take-suc l i 0 h) (checksum_append (take i l) (get_or l i 0 ∷ []) ∙ omega arith)
 
 -- what signing walks and what checking walks are 15 a chain
 pub sums_meet : (l : List ℕ) → ((i : ℕ) → get_or l i 0 ≤ 15) → total l + checksum l ≡ 15 * length l

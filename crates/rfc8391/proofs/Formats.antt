@@ -1,11 +1,5 @@
 -- Keys and signatures are read from their bytes, and written, without a byte unread: both round trips.
-use mathlib.Core.Path.{◌≡◌, refl, sym, ap, ap₂, ◌∙◌}
-use mathlib.Core.List.{List, [], ◌++◌, append-nil, append_assoc}
-use Prim.Native.Nat.{ℕ, ◌+◌, ◌*◌, ◌^◌, ◌<◌}
-use native.Mathlib.Nat.{mod-eq_of_lt}
-use native.Mathlib.Omega.{arith}
-use lib.ListN.{length, get_or, take, drop, length-append, length-drop, take-append-drop}
-use lib.Seq.{take_at, drop_at, take_all, drop-drop}
+use Rattle.std.proofs.Common.{◌≡◌, ℕ, ◌+◌, ◌*◌, ◌^◌, ◌<◌, List, [], ◌++◌, length, get_or, take, drop, sym, refl, ap, ◌∙◌, ap₂, append_assoc, append-nil, mod-eq_of_lt, arith, length-append, length-drop, take-append-drop, take_all, drop-drop, take_at, drop_at}
 use Rattle.lists.specs.Lists.{flat, parts}
 use Rattle.lists.specs.Bytes.{Bytes, to_byte, number}
 use Rattle.lists.proofs.Tabs.{tab-get_or}

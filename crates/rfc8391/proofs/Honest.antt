@@ -1,12 +1,9 @@
 -- An honest signature verifies, over any suite, any secret values and any height.
-use mathlib.Core.Path.{◌≡◌, ap, ◌∙◌}
-use mathlib.Core.List.{List}
-use Prim.Native.Nat.{ℕ, ◌^◌, ◌<◌}
-use native.Mathlib.Omega.{arith}
+use Rattle.std.proofs.Common.{◌≡◌, ℕ, ◌^◌, ◌<◌, List, ap, ◌∙◌, arith}
 use Rattle.lists.proofs.Tabs.{length-tab}
 use Rattle.rfc8391.specs.Suite.{Suite, Value, Values}
 use Rattle.rfc8391.specs.Wots.{wots_pk, wots_sign}
-use Rattle.rfc8391.specs.Xmss.{ots_at, ltree_at, message_digest, ltree, auth_path, root_from_path, root_from_sig, leaf_of, root_of, public_key_of, signature_with, signature_of, verify}
+use Rattle.rfc8391.specs.Xmss.{ots_at, ltree_at, ltree, auth_path, root_from_path, root_from_sig, leaf_of, root_of, public_key_of, signature_with, signature_of, verify}
 use Rattle.rfc8391.specs.House.{secret_value}
 use Rattle.rfc8391.specs.declared.Address.{Address}
 use Rattle.rfc8391.proofs.Values.{tab_values}
@@ -19,10 +16,6 @@ module _ (S : Suite) where
   pub secret_value_lem : (sk_seed seed : List ℕ) (a : Address) → Value S.n (secret_value S sk_seed seed a)
   unfolding secret_value
   secret_value_lem sk_seed seed a = S.PRF_value _ _
-
-  pub digest_value : (r root : List ℕ) (i : ℕ) (m : List ℕ) → Value S.n (message_digest S r root i m)
-  unfolding message_digest
-  digest_value r root i m = S.Hmsg_value _ _
 
   module _ (seed : List ℕ) (a : Address) (sk : ℕ → ℕ → List ℕ) where
     -- leaves, root and path are values where the secret values are

@@ -1,5 +1,5 @@
 -- Rows 1 to 7 of the table hold of the definitions: by computing, and row 6 by the law of a round's length.
-use mathlib.Core.Path.{refl}
+use Rattle.std.proofs.Common.{refl}
 use Rattle.lists.specs.Lists.{tab, turns}
 use Rattle.lists.specs.Bytes.{to_byte}
 use Rattle.rfc8391.specs.Wots.{base_w, checksum, total, digits}

@@ -1,12 +1,7 @@
 -- Laws of the tree, over any suite, leaf function and height: the honest path leads to the root.
-use mathlib.Core.Path.{◌≡◌, refl, sym, ap, ap₂, ◌∙◌}
-use mathlib.Core.List.{List, []}
-use mathlib.Core.Logic.{⊎_elim}
-use Prim.Native.Nat.{ℕ, zero, suc, ◌+◌, ◌-◌, ◌*◌, ◌/◌, ◌%◌, ◌^◌, ◌<◌, ◌≤◌}
-use native.Mathlib.Nat.{le_refl, div-one, div-eq_of_lt, div-div-eq-div-mul, pow-suc, eq-zero-or-pos}
-use native.Mathlib.Omega.{arith}
-use borrow.Author.Tests.{eq-eqb, ne_eqb}
-use lib.Bits.{differ, bit_xor, xor_step, xor_zero_r}
+use Rattle.std.proofs.Common.{◌≡◌, ℕ, zero, suc, ◌+◌, ◌-◌, ◌*◌, ◌/◌, ◌%◌, ◌^◌, ◌<◌, ◌≤◌, List, [], bit_xor, sym, refl, ap, ◌∙◌, ap₂, ⊎_elim, le_refl, eq-zero-or-pos, pow-suc, div-one, arith, eq-eqb, ne_eqb}
+use Rattle.std.proofs.Math.Nat.{div-eq_of_lt, div-div-eq-div-mul}
+use Rattle.std.specs.Int.Bits.{differ, xor_step, xor_zero_r}
 use Rattle.lists.specs.Lists.{turns}
 use Rattle.lists.proofs.Tabs.{get_or-tab}
 use Rattle.rfc8391.specs.Suite.{Suite, Value}

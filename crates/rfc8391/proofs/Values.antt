@@ -1,12 +1,6 @@
 -- Laws of values and lists of them, and of values that stand at the front of longer lists.
-use mathlib.Core.Path.{◌≡◌, refl, sym, ap₂, ◌∙◌}
-use mathlib.Core.List.{List, []}
-use Prim.Native.Nat.{ℕ, ◌+◌, ◌-◌, ◌<◌, ◌≤◌}
-use native.Mathlib.Omega.{arith}
+use Rattle.std.proofs.Common.{◌≡◌, ℕ, ◌+◌, ◌-◌, ◌<◌, ◌≤◌, List, [], length, take, drop, bit_xor, sym, ◌∙◌, ap₂, arith, length-drop, length-take-le, get_or-take}
 use Rattle.lists.specs.Lists.{tab}
-use lib.Bits.{bit_xor}
-use lib.ListN.{length, take, drop, length-drop}
-use lib.Seq.{take_all, get_or-take, length-take-le}
 use Rattle.lists.proofs.Tabs.{length-tab, get_or-tab, tab_ext, take-tab}
 use Rattle.rfc8391.specs.Suite.{Value, Values, xor}
 
@@ -30,8 +24,3 @@ value_at n w at l v e h q =
     let z : at + w - at ≡ w = omega arith in
     let k : length (take w (drop at l)) ≡ w = length-take-le w (drop at l) (rw length-drop (omega arith)) in
     rw (z, k, e) at q
-
--- and one that fills what it was read into
-pub whole_at : (n at : ℕ) (l v : List ℕ) → at + n ≤ length l → length v ≡ n
-    → take (length (take (at + n - at) (drop at l))) v ≡ take (at + n - at) (drop at l) → v ≡ take n (drop at l)
-whole_at n at l v h k q = sym (take_all n v (omega arith)) ∙ value_at n n at l v refl h q

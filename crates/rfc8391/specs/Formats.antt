@@ -1,5 +1,5 @@
 -- Keys and signatures as bytes: their types, their layout, and which of them RFC 8391 accepts. Numbers are big-endian.
-use Rattle.std.specs.Prelude.{◌≡◌, List, ◌++◌, ℕ, ◌+◌, ◌*◌, eqb, length, take, drop}
+use Rattle.std.specs.Prelude.{◌≡◌, List, ◌++◌, ℕ, ◌+◌, ◌*◌, eqb, length, take, drop, Option, Some, None}
 use Rattle.lists.specs.Lists.{flat, parts, pick}
 use Rattle.lists.specs.Bytes.{to_byte, number}
 use Rattle.rfc8391.specs.Suite.{Suite}
@@ -8,7 +8,6 @@ use Rattle.rfc8391.specs.declared.Address.{Address}
 use Rattle.rfc8391.specs.declared.Hash.{Hash}
 use Rattle.rfc8391.specs.declared.Hash.TheVariants.{Sha2}
 use Rattle.rfc8391.specs.declared.KeyType.{KeyType}
-use Rattle.rfc8391.specs.declared.KeyType.TheVariants.{Served, Unknown}
 
 -- 4.1.7: a public key: type (4 bytes), root, seed
 unfoldable pub key_length : ℕ → ℕ
@@ -47,24 +46,24 @@ unfoldable pub value_length : Hash → ℕ
 value_length Sha2 = 32
 
 -- a type that is served: its hash, the height of its tree, the length of its signatures
-abbrev pub served : Hash → ℕ → KeyType
-served hash h = Served hash h (signature_length (value_length hash) h)
+abbrev pub served : Hash → ℕ → Option KeyType
+served hash h = Some (record { hash = hash; height = h; length = signature_length (value_length hash) h })
 
 -- 5.3 and the registry of section 8: the types with SHA-256 and values of 32 bytes; no other number is a type here
-unfoldable pub key_type : ℕ → KeyType
-key_type t = pick (eqb t 1) (served Sha2 10) (pick (eqb t 2) (served Sha2 16) (pick (eqb t 3) (served Sha2 20) Unknown))
+unfoldable pub key_type : ℕ → Option KeyType
+key_type t = pick (eqb t 1) (served Sha2 10) (pick (eqb t 2) (served Sha2 16) (pick (eqb t 3) (served Sha2 20) None))
 
 -- the type that a key names, its hash and its height (Sha2 and 0 where it is none)
-abbrev pub type_of : List ℕ → KeyType
+abbrev pub type_of : List ℕ → Option KeyType
 type_of key = key_type (number key 0 4)
 
-abbrev pub hash_of : KeyType → Hash
-hash_of (Served hash height length) = hash
-hash_of Unknown = Sha2
+abbrev pub hash_of : Option KeyType → Hash
+hash_of (Some t) = t.hash
+hash_of None = Sha2
 
-abbrev pub height_of : KeyType → ℕ
-height_of (Served hash height length) = height
-height_of Unknown = 0
+abbrev pub height_of : Option KeyType → ℕ
+height_of (Some t) = t.height
+height_of None = 0
 
 -- layer 0 and tree 0
 abbrev pub single_tree : Address

@@ -1,6 +1,5 @@
 -- A hash suite: the keyed functions of RFC 8391, sections 3.1.1 and 4.1.2, with what is known of any of them.
-use Rattle.std.specs.Prelude.{◌≡◌, List, [], ℕ, ◌<◌, length, get_or}
-use Rattle.std.specs.Int.Bits.{bit_xor}
+use Rattle.std.specs.Prelude.{◌≡◌, ℕ, ◌<◌, List, [], length, get_or, bit_xor}
 use Rattle.lists.specs.Bytes.{Bytes}
 use Rattle.lists.specs.Lists.{tab}
 

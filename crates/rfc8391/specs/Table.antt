@@ -1,5 +1,5 @@
 -- The customer's table of proved examples, rows 1 to 7: what the definitions give there.
-use Rattle.std.specs.Prelude.{◌≡◌, List, [], ◌∷◌, ℕ, length, drop, replicate}
+use Rattle.std.specs.Prelude.{◌≡◌, List, [], ◌∷◌, ℕ, length, drop, replicate, Some}
 use Rattle.lists.specs.Lists.{tab}
 use Rattle.rfc8391.specs.Suite.{Suite}
 use Rattle.rfc8391.specs.Wots.{checksum, total, digits}
@@ -7,7 +7,6 @@ use Rattle.rfc8391.specs.Xmss.{path_position, ltree_rounds}
 use Rattle.rfc8391.specs.Formats.{key_type}
 use Rattle.rfc8391.specs.declared.Address.{Address}
 use Rattle.rfc8391.specs.declared.Hash.TheVariants.{Sha2}
-use Rattle.rfc8391.specs.declared.KeyType.TheVariants.{Served}
 
 -- a digest's last three digits, the steps of signing (the sum of its digits) and those of checking (15 less each)
 pub record Digits (digest last : List ℕ) (signing checking : ℕ) : Type 0 where
@@ -17,7 +16,7 @@ pub record Digits (digest last : List ℕ) (signing checking : ℕ) : Type 0 whe
 
 -- a type's height and the length of its signatures
 abbrev Length : ℕ → ℕ → ℕ → Type 0
-Length type height bytes = key_type type ≡ Served Sha2 height bytes
+Length type height bytes = key_type type ≡ Some (record { hash = Sha2; height = height; length = bytes })
 
 -- how many values an L-tree over any 67 has before each round and at its end
 abbrev Widths : List ℕ → Type 0

@@ -1,6 +1,5 @@
 -- XMSS of RFC 8391, section 4.1, over any suite. An address a carries the layer and tree words; the rest is set here.
-use Rattle.std.specs.Prelude.{◌≡◌, List, [], ◌++◌, ℕ, zero, suc, ◌+◌, ◌*◌, ◌/◌, ◌%◌, ◌^◌, eqb, ltb, length, get_or}
-use Rattle.std.specs.Int.Bits.{bit_xor}
+use Rattle.std.specs.Prelude.{◌≡◌, ℕ, zero, suc, ◌+◌, ◌*◌, ◌/◌, ◌%◌, ◌^◌, eqb, ltb, List, [], ◌++◌, length, get_or, bit_xor}
 use Rattle.lists.specs.Lists.{tab, turns, pick}
 use Rattle.lists.specs.Bytes.{to_byte}
 use Rattle.rfc8391.specs.Suite.{Suite, xor}

@@ -1,4 +1,5 @@
-// RFC 8391's definitions over any hash suite and their laws, in specs/ and proofs/; here its small types: addresses, key types, values.
+// RFC 8391's definitions over any hash suite and their laws, in specs/ and proofs/; here its addresses and key types, and what is done with a
+// value, which is the first bytes of an array of 32.
 // Uses lists.
 // Everything above uses it.
 
@@ -11,8 +12,9 @@ ghost use Rattle.rfc8391.specs.Address.{set_type, set_ots_address, set_chain_add
 ghost use Rattle.rfc8391.specs.Xmss.{ots_at, ltree_at, tree_at};
 ghost use Rattle.rfc8391.specs.Formats.{key_type, single_tree};
 
-// Eight words. What w4, w5 and w6 mean is the type's to say, so that they have two names each below.
-#[derive(Clone, Copy)]
+// Eight words. What w4, w5 and w6 mean is the type's to say, so that they have two names each below: those of RFC 8391, section 2.5, which
+// its algorithms, our definitions and the contracts use.
+#[derive(Clone, Copy, Default)]
 pub struct Address {
     pub layer: u32,
     pub treehigh: u32,
@@ -29,31 +31,21 @@ impl Address {
     pub fn single_tree() -> Self
         ensures { result ≡ single_tree }
     {
-        Self {
-            layer: 0,
-            treehigh: 0,
-            treelow: 0,
-            kind: 0,
-            w4: 0,
-            w5: 0,
-            w6: 0,
-            w7: 0,
-        }
+        Self::default()
     }
 
-    // A word that is left from another type would change every key and mask below.
+    // A word that is left from another type would change every key and mask below. The type is a number and no enum: RFC 8391
+    // hashes it, and the contract holds for any.
     pub fn set_type(self, x: u32) -> Self
         ensures { result ≡ set_type self x }
     {
         Self {
-            layer: self.layer,
-            treehigh: self.treehigh,
-            treelow: self.treelow,
             kind: x,
             w4: 0,
             w5: 0,
             w6: 0,
             w7: 0,
+            ..self
         }
     }
 
@@ -103,7 +95,26 @@ impl Address {
         self
     }
 
-    // The chains of a leaf.
+    // The addresses of a key, of a mask, and of the right one of two masks: RFC 8391's selectors, which are hashed as numbers.
+    pub fn for_key(self) -> Self
+        ensures { result ≡ set_key_and_mask self 0 }
+    {
+        self.set_key_and_mask(0)
+    }
+
+    pub fn for_mask(self) -> Self
+        ensures { result ≡ set_key_and_mask self 1 }
+    {
+        self.set_key_and_mask(1)
+    }
+
+    pub fn for_right_mask(self) -> Self
+        ensures { result ≡ set_key_and_mask self 2 }
+    {
+        self.set_key_and_mask(2)
+    }
+
+    // The chains of a leaf. `ltree_at` differs by a number alone, but stands beside it: the contract of each names its own definition.
     pub fn ots_at(self, leaf: u32) -> Self
         ensures { result ≡ ots_at self leaf }
     {
@@ -129,7 +140,7 @@ impl Address {
     pub fn encode(self) -> [u8; 32]
         ensures { result ≡ address_bytes self }
     {
-        lists::eight_words(
+        lists::eight_words([
             self.layer,
             self.treehigh,
             self.treelow,
@@ -138,7 +149,7 @@ impl Address {
             self.w5,
             self.w6,
             self.w7,
-        )
+        ])
     }
 }
 
@@ -148,50 +159,47 @@ pub enum Hash {
     Sha2,
 }
 
-// What a type number stands for: a hash, a tree's height and the length of its signatures; or nothing that we know.
+// What a type number stands for: a hash, a tree's height and the length of its signatures.
 #[derive(Clone, Copy)]
-pub enum KeyType {
-    Served {
-        hash: Hash,
-        height: u32,
-        length: u32,
-    },
-    Unknown,
+pub struct KeyType {
+    pub hash: Hash,
+    pub height: u32,
+    pub length: usize,
 }
 
-pub fn key_type(number: u32) -> KeyType
+// The type with a number, where we know one. The numbers are those of RFC 8391's registry; a key that is checked has its
+// number read here alone.
+pub fn key_type(number: u32) -> Option<KeyType>
     ensures { result ≡ key_type number }
 {
     match number {
-        1 => KeyType::Served {
+        1 => Some(KeyType {
             hash: Hash::Sha2,
             height: 10,
             length: 2500,
-        },
-        2 => KeyType::Served {
+        }),
+        2 => Some(KeyType {
             hash: Hash::Sha2,
             height: 16,
             length: 2692,
-        },
-        3 => KeyType::Served {
+        }),
+        3 => Some(KeyType {
             hash: Hash::Sha2,
             height: 20,
             length: 2820,
-        },
-        _ => KeyType::Unknown,
+        }),
+        _ => None,
     }
 }
 
-pub fn xored(x: [u8; 32], y: [u8; 32]) -> [u8; 32]
+// In place: by `array::from_fn` the proof would have to follow what its closure holds through all 32 calls.
+pub fn xored(mut x: [u8; 32], y: [u8; 32]) -> [u8; 32]
     ensures { result ≡ xor 32 x y }
 {
-    let mut out = [0u8; 32];
-    let mut i = 0;
-    while i < 32 {
-        out[i] = x[i] ^ y[i];
-        i += 1;
+    for (i, b) in x.iter_mut().enumerate() {
+        *b ^= y[i];
     }
-    out
+    x
 }
 
 // A number in 32 bytes.
@@ -199,10 +207,7 @@ pub fn to_bytes(x: u32) -> [u8; 32]
     ensures { result ≡ to_byte x 32 }
 {
     let mut out = [0u8; 32];
-    out[28] = (x / 0x100_0000 % 256) as u8;
-    out[29] = (x / 0x1_0000 % 256) as u8;
-    out[30] = (x / 0x100 % 256) as u8;
-    out[31] = (x / 1 % 256) as u8;
+    out[28..].copy_from_slice(&x.to_be_bytes());
     out
 }
 
@@ -211,13 +216,8 @@ pub fn value_of(part: &[u8]) -> [u8; 32]
     requires { length part.now ≤ 32 }
     ensures { take (length part.now) result ≡ part.now }
 {
-    let n = part.len();
     let mut out = [0u8; 32];
-    let mut i = 0;
-    while i < n {
-        out[i] = part[i];
-        i += 1;
-    }
+    out[..part.len()].copy_from_slice(part);
     out
 }
 
@@ -227,9 +227,5 @@ pub fn write_value(out: &mut [u8], value: [u8; 32])
     ensures { out.new ≡ take (length out.old) value }
 {
     let n = out.len();
-    let mut i = 0;
-    while i < n {
-        out[i] = value[i];
-        i += 1;
-    }
+    out.copy_from_slice(&value[..n]);
 }

@@ -1,39 +1,12 @@
 -- The end of a padded message, from its last whole block on, as the code writes it.
-use Rattle.std.proofs.Common.{◌≡◌, ℕ, suc, ◌+◌, ◌-◌, ◌*◌, ◌/◌, ◌%◌, ◌^◌, ◌<◌, ◌≤◌, List, ◌∷◌, ◌++◌, length, take, drop, set, replicate, sym, ap, ◌∙◌, append_assoc, zero-add, arith, length-append, length-drop, take-append-drop, length-take-le, take_all}
-use native.Mathlib.Nat.{mul-div-mul_left}
-use lib.ListN.{length-replicate}
-use lib.Seq.{take-append-add, take-length, set-append_seam, paste, take-paste}
+use Rattle.std.proofs.Common.{◌≡◌, ℕ, ◌+◌, ◌-◌, ◌*◌, ◌/◌, ◌%◌, ◌^◌, ◌<◌, ◌≤◌, List, ◌∷◌, ◌++◌, length, take, drop, replicate, sym, ap, ◌∙◌, append_assoc, arith, length-append, length-drop, take-append-drop, length-take-le}
+use Rattle.std.proofs.lemmas.List.{length-replicate}
 use Rattle.lists.specs.Bytes.{to_byte}
-use Rattle.lists.proofs.Repeats.{take-replicate, drop-replicate}
 use Rattle.lists.proofs.Numbers.{length-to_byte, to_byte-mod}
 use Rattle.sha256.specs.Sha256.{padding, hashed, digest}
 use Rattle.sha256.specs.Midstate.{padded_rest, finished}
 use Rattle.sha256.specs.declared.State.{State}
 use Rattle.sha256.proofs.Blocks.{hashed_front, hashed_splits}
-
--- what is left of a message, pasted into w zeros, with the byte 0x80 after it
-rest_pasted : (w : ℕ) (d : List ℕ) → length d < w
-    → set (paste (replicate w 0) 0 d (length d)) (length d) 0x80 ≡ d ++ (0x80 ∷ replicate (w - 1 - length d) 0)
-rest_pasted w d h =
-    let e : w - length d ≡ suc (w - 1 - length d) = omega arith in
-    let p : paste (replicate w 0) 0 d (length d) ≡ d ++ (0 ∷ replicate (w - 1 - length d) 0) =
-    rw (zero-add, take-length, drop-replicate, e) in
-    rw (p, set-append_seam)
-
--- the same with bytes b pasted at e: the first e + length b bytes
-pub ending_pasted : (w : ℕ) (d b : List ℕ) (e : ℕ) → length d < e → e + length b ≤ w
-    → take (e + length b) (paste (set (paste (replicate w 0) 0 d (length d)) (length d) 0x80) e b (length b))
-    ≡ d ++ (0x80 ∷ (replicate (e - length d - 1) 0 ++ b))
-ending_pasted w d b e h k =
-    let j : ℕ = e - length d - 1 in
-    let z : ℕ = w - 1 - length d in
-    let q : List ℕ = d ++ (0x80 ∷ replicate z 0) in
-    let n : e ≡ length d + suc j = omega arith in
-    let r : e ≤ length q = simp (length-append, length-replicate) (omega arith) in
-    let f : take (length d + suc j) q ≡ d ++ (0x80 ∷ replicate j 0) =
-    rw (take-append-add d (0x80 ∷ replicate z 0) (suc j), take-replicate {A = ℕ} j z 0 (omega arith)) in
-    let t : take e q ≡ d ++ (0x80 ∷ replicate j 0) = rw (← n) at f in
-    rw (rest_pasted w d (omega arith), take-paste q e b (length b) r (omega arith), take-length, t) (append_assoc d (0x80 ∷ replicate j 0) b)
 
 -- a padding's length
 length-padding : (n : ℕ) → length (padding n) ≡ (119 - n % 64) % 64 + 9
@@ -62,29 +35,15 @@ bits_mod n =
     let e : 8 * (n % 2 ^ 64) % 2 ^ 64 ≡ 8 * n % 2 ^ 64 = omega arith in
     sym (to_byte-mod (8 * (n % 2 ^ 64)) 8) ∙ ap (λ (x : ℕ). to_byte x 8) e ∙ to_byte-mod (8 * n) 8
 
--- a byte of the length in bits is a byte of the length in eighths of its power
-pub byte_of_bits : (n a : ℕ) → n / a % 256 ≡ 8 * n / (8 * a) % 256
-byte_of_bits n a = ap (λ (x : ℕ). x % 256) (sym (mul-div-mul_left n a (omega arith)))
-
--- the hash from the code's last j blocks, the front of p: the rest of m, the bit 1, zeros, and behind `size` bytes the length b in bits
-pub finished_by : (s v : State) (k : ℕ) (m p b : List ℕ) (n size j : ℕ) → v ≡ hashed (length m / 64) s m
-    → n ≡ (64 * k + length m) % 2 ^ 64 → b ≡ to_byte (8 * n) 8 → size + 8 ≡ 64 * j
-    → length m % 64 < size → size < length m % 64 + 65
-    → (d : List ℕ) → d ≡ take (length m - length m / 64 * 64) (drop (length m / 64 * 64) m)
-    → take (size + 8) p ≡ d ++ (0x80 ∷ (replicate (size - length d - 1) 0 ++ b))
-    → digest (hashed j v (take (size + 8) p)) ≡ finished s k m
+-- the hash from the code's last j blocks p: the rest d of m, the bit 1, zeros, and the length b in bits
+pub finished_by : (s v : State) (k : ℕ) (m p b d : List ℕ) (n j : ℕ) → v ≡ hashed (length m / 64) s m
+    → n ≡ (64 * k + length m) % 2 ^ 64 → b ≡ to_byte (8 * n) 8 → length m % 64 + 9 ≤ 64 * j → 64 * j < length m % 64 + 73
+    → d ≡ drop (length m / 64 * 64) m → p ≡ d ++ (0x80 ∷ (replicate (64 * j - 9 - length d) 0 ++ b))
+    → digest (hashed j v p) ≡ finished s k m
 unfolding padding
-finished_by s v k m p b n size j ev en eb ej lo hi d ed ep =
+finished_by s v k m p b d n j ev en eb lo hi ed ep =
     let f : ℕ = length m / 64 * 64 in
-    let w : d ≡ drop f m = ed ∙ take_all (length m - f) (drop f m) (rw length-drop (omega arith)) in
-    let l : length d ≡ length m % 64 = ap length w ∙ (length-drop f m ∙ omega arith) in
-    let z : size - length d - 1 ≡ (119 - (64 * k + length m) % 64) % 64 = omega arith in
+    let l : length d ≡ length m % 64 = ap length ed ∙ (length-drop f m ∙ omega arith) in
+    let z : 64 * j - 9 - length d ≡ (119 - (64 * k + length m) % 64) % 64 = omega arith in
     let eb : b ≡ to_byte (8 * (64 * k + length m)) 8 = eb ∙ ap (λ (x : ℕ). to_byte (8 * x) 8) en ∙ bits_mod (64 * k + length m) in
-    rw (ep, z, eb, w, ev) (sym (finished_ending s k m j (omega arith) (omega arith)))
-
--- the hash where half a block is left: the padded rest is one block
-pub finished_half : (s : State) (k : ℕ) (m : List ℕ) → length m ≡ 32 → finished s k m ≡ digest (hashed 1 s (m ++ padding (64 * k + 32)))
-unfolding finished padded_rest
-finished_half s k m h =
-    let l : length (m ++ padding (64 * k + 32)) / 64 ≡ 1 = rw (length-append, length-padding) (omega arith) in
-    rw (h, l)
+    rw (ep, z, eb, ed, ev) (sym (finished_ending s k m j lo hi))

@@ -6,35 +6,35 @@ use Rattle.lists.specs.Bytes.{to_byte, number}
 use Rattle.sha256.specs.declared.State.{State}
 
 -- 3.2: the sum of two words, a rotation and a shift to the right, a complement
-unfoldable pub plus : ℕ → ℕ → ℕ
+abbrev pub plus : ℕ → ℕ → ℕ
 plus x y = (x + y) % 2 ^ 32
 
-unfoldable pub ROTR : ℕ → ℕ → ℕ
+abbrev pub ROTR : ℕ → ℕ → ℕ
 ROTR n x = bit_or (x / 2 ^ n) (x * 2 ^ (32 - n) % 2 ^ 32)
 
-unfoldable pub SHR : ℕ → ℕ → ℕ
+abbrev pub SHR : ℕ → ℕ → ℕ
 SHR n x = x / 2 ^ n
 
-unfoldable pub complement : ℕ → ℕ
+abbrev pub complement : ℕ → ℕ
 complement x = 2 ^ 32 - 1 - x
 
 -- 4.1.2: the six functions
-unfoldable pub Ch : ℕ → ℕ → ℕ → ℕ
+abbrev pub Ch : ℕ → ℕ → ℕ → ℕ
 Ch x y z = bit_xor (bit_and x y) (bit_and (complement x) z)
 
-unfoldable pub Maj : ℕ → ℕ → ℕ → ℕ
+abbrev pub Maj : ℕ → ℕ → ℕ → ℕ
 Maj x y z = bit_xor (bit_xor (bit_and x y) (bit_and x z)) (bit_and y z)
 
-unfoldable pub Σ₀ : ℕ → ℕ
+abbrev pub Σ₀ : ℕ → ℕ
 Σ₀ x = bit_xor (bit_xor (ROTR 2 x) (ROTR 13 x)) (ROTR 22 x)
 
-unfoldable pub Σ₁ : ℕ → ℕ
+abbrev pub Σ₁ : ℕ → ℕ
 Σ₁ x = bit_xor (bit_xor (ROTR 6 x) (ROTR 11 x)) (ROTR 25 x)
 
-unfoldable pub σ₀ : ℕ → ℕ
+abbrev pub σ₀ : ℕ → ℕ
 σ₀ x = bit_xor (bit_xor (ROTR 7 x) (ROTR 18 x)) (SHR 3 x)
 
-unfoldable pub σ₁ : ℕ → ℕ
+abbrev pub σ₁ : ℕ → ℕ
 σ₁ x = bit_xor (bit_xor (ROTR 17 x) (ROTR 19 x)) (SHR 10 x)
 
 -- 4.2.2: the constants
@@ -61,7 +61,7 @@ unfoldable pub block : ℕ → List ℕ → List ℕ
 block i m = tab 16 (λ j. number m (64 * i + 4 * j) 4)
 
 -- 5.3.3: the first hash value
-unfoldable pub H₀ : State
+abbrev pub H₀ : State
 H₀ =
     record {
       a = 0x6a09_e667;
@@ -82,13 +82,13 @@ unfoldable pub schedule : ℕ → List ℕ → List ℕ
 schedule n m = turns n (λ i w. w ++ (word w (16 + i) ∷ [])) m
 
 -- 6.2.2, step 3: the sums T₁ and T₂ of a round with the constant k and the schedule's word w, the round, and the first n rounds
-unfoldable pub T₁ : State → ℕ → ℕ → ℕ
+abbrev pub T₁ : State → ℕ → ℕ → ℕ
 T₁ s k w = plus (plus (plus (plus s.h (Σ₁ s.e)) (Ch s.e s.f s.g)) k) w
 
-unfoldable pub T₂ : State → ℕ
+abbrev pub T₂ : State → ℕ
 T₂ s = plus (Σ₀ s.a) (Maj s.a s.b s.c)
 
-unfoldable pub round : State → ℕ → ℕ → State
+abbrev pub round : State → ℕ → ℕ → State
 round s k w =
     record {
       a = plus (T₁ s k w) (T₂ s);
@@ -105,7 +105,7 @@ unfoldable pub rounds : ℕ → State → List ℕ → State
 rounds n s w = turns n (λ t v. round v (slice_index K t) (slice_index w t)) s
 
 -- 6.2.2, step 4: the sum of two hash values, word by word; and so the next hash value, from a block's 16 words m
-unfoldable pub added : State → State → State
+abbrev pub added : State → State → State
 added s t =
     record {
       a = plus s.a t.a;

@@ -5,13 +5,10 @@
 #![tactic(auto)]
 
 ghost use Rattle.std.specs.Prelude.{◌≡◌, ◌+◌, ◌-◌, ◌*◌, ◌/◌, ◌%◌, ◌^◌, ◌<◌, ◌≤◌, ◌∷◌, ◌++◌, length, take, replicate, slice_index};
-ghost use Rattle.std.proofs.Math.Seq.{paste};
 ghost use Rattle.lists.specs.Lists.{turns};
 ghost use Rattle.lists.specs.Bytes.{to_byte};
 ghost use Rattle.sha256.specs.Sha256.{plus, Ch, Maj, Σ₀, Σ₁, σ₀, σ₁, padding, block, H₀, schedule, round, rounds, added, compressed, hashed, digest, sha256};
 ghost use Rattle.sha256.specs.Midstate.{finished};
-
-use std::num::{wrapping_add_u32, wrapping_add_usize};
 
 // FIPS 180-4, 4.2.2.
 const K: [u32; 64] = [
@@ -94,13 +91,7 @@ pub struct State {
     pub h: u32,
 }
 
-// The contract is written out, and not by its name plus, so that the check proves this by itself.
-fn add(x: u32, y: u32) -> u32
-    ensures { result ≡ (x + y) % 2 ^ 32 }
-{
-    wrapping_add_u32(x, y)
-}
-
+// FIPS 180-4, 4.1.2: six functions by the document's names. One function with three constants for the four sigmas would hide them.
 fn choose(x: u32, y: u32, z: u32) -> u32
     ensures { result ≡ Ch x y z }
 {
@@ -116,49 +107,34 @@ fn majority(x: u32, y: u32, z: u32) -> u32
 fn big_sigma0(x: u32) -> u32
     ensures { result ≡ Σ₀ x }
 {
-    ((x >> 2) | (x << 30)) ^ ((x >> 13) | (x << 19)) ^ ((x >> 22) | (x << 10))
+    x.rotate_right(2) ^ x.rotate_right(13) ^ x.rotate_right(22)
 }
 
 fn big_sigma1(x: u32) -> u32
     ensures { result ≡ Σ₁ x }
 {
-    ((x >> 6) | (x << 26)) ^ ((x >> 11) | (x << 21)) ^ ((x >> 25) | (x << 7))
+    x.rotate_right(6) ^ x.rotate_right(11) ^ x.rotate_right(25)
 }
 
 fn small_sigma0(x: u32) -> u32
     ensures { result ≡ σ₀ x }
 {
-    ((x >> 7) | (x << 25)) ^ ((x >> 18) | (x << 14)) ^ (x >> 3)
+    x.rotate_right(7) ^ x.rotate_right(18) ^ (x >> 3)
 }
 
 fn small_sigma1(x: u32) -> u32
     ensures { result ≡ σ₁ x }
 {
-    ((x >> 17) | (x << 15)) ^ ((x >> 19) | (x << 13)) ^ (x >> 10)
+    x.rotate_right(17) ^ x.rotate_right(19) ^ (x >> 10)
 }
 
-fn block_at(m: &[u8], i: usize) -> [u32; 16]
-    requires { 64 * i + 64 ≤ length m.now }
-    ensures { result ≡ block i m.now }
+// The 16 words of a block.
+fn words_of(bytes: &[u8; 64]) -> [u32; 16]
+    ensures { result ≡ block 0 bytes.now }
 {
     let mut w = [0u32; 16];
-    let mut j = 0;
-    while j < 16 {
-        w[j] = lists::big_endian(m, 64 * i + 4 * j);
-        j += 1;
-    }
-    w
-}
-
-// A block's 16 words, with room for the 48 that follow.
-fn with_room(b: [u32; 16]) -> [u32; 64]
-    ensures { (take 16 result ≡ b) × (length result ≡ 64) }
-{
-    let mut w = [0u32; 64];
-    let mut i = 0;
-    while i < 16 {
-        w[i] = b[i];
-        i += 1;
+    for (j, word) in w.iter_mut().enumerate() {
+        *word = lists::big_endian(bytes, 4 * j);
     }
     w
 }
@@ -166,17 +142,20 @@ fn with_room(b: [u32; 16]) -> [u32; 64]
 fn next_word(p: u32, q: u32, r: u32, s: u32) -> u32
     ensures { result ≡ plus (plus (plus (σ₁ p) q) (σ₀ r)) s }
 {
-    add(add(add(small_sigma1(p), q), small_sigma0(r)), s)
+    small_sigma1(p)
+        .wrapping_add(q)
+        .wrapping_add(small_sigma0(r))
+        .wrapping_add(s)
 }
 
+// A block's 16 words, and the 48 that follow.
 fn message_schedule(b: [u32; 16]) -> [u32; 64]
     ensures { result ≡ schedule 48 b }
 {
-    let mut w = with_room(b);
-    let mut t = 16;
-    while t < 64 {
+    let mut w = [0u32; 64];
+    w[..16].copy_from_slice(&b);
+    for t in 16..64 {
         w[t] = next_word(w[t - 2], w[t - 7], w[t - 15], w[t - 16]);
-        t += 1;
     }
     w
 }
@@ -184,44 +163,43 @@ fn message_schedule(b: [u32; 16]) -> [u32; 64]
 fn one_round(s: State, k: u32, w: u32) -> State
     ensures { result ≡ round s k w }
 {
-    let t1 = add(
-        add(add(add(s.h, big_sigma1(s.e)), choose(s.e, s.f, s.g)), k),
-        w,
-    );
-    let t2 = add(big_sigma0(s.a), majority(s.a, s.b, s.c));
+    let t1 = s
+        .h
+        .wrapping_add(big_sigma1(s.e))
+        .wrapping_add(choose(s.e, s.f, s.g))
+        .wrapping_add(k)
+        .wrapping_add(w);
+    let t2 = big_sigma0(s.a).wrapping_add(majority(s.a, s.b, s.c));
     State {
-        a: add(t1, t2),
+        a: t1.wrapping_add(t2),
         b: s.a,
         c: s.b,
         d: s.c,
-        e: add(s.d, t1),
+        e: s.d.wrapping_add(t1),
         f: s.e,
         g: s.f,
         h: s.g,
     }
 }
 
-// Written out, so that the variables change their roles and few words have to be moved.
-fn four_rounds(v: State, k: &[u32; 64], w: &[u32; 64], t: usize) -> State
-    requires { t + 4 ≤ 64 }
-    ensures { result ≡ turns 4 (λ i x. round x (slice_index k.now (t + i)) (slice_index w.now (t + i))) v }
+// Four a turn, so that the variables change their roles: a loop of single rounds moves all eight words each time and is a sixth slower.
+fn four_rounds(v: State, k: &[u32; 4], w: &[u32; 4]) -> State
+    ensures { result ≡ turns 4 (λ i x. round x (slice_index k.now i) (slice_index w.now i)) v }
 {
-    let v1 = one_round(v, k[t], w[t]);
-    let v2 = one_round(v1, k[t + 1], w[t + 1]);
-    let v3 = one_round(v2, k[t + 2], w[t + 2]);
-    one_round(v3, k[t + 3], w[t + 3])
+    let v1 = one_round(v, k[0], w[0]);
+    let v2 = one_round(v1, k[1], w[1]);
+    let v3 = one_round(v2, k[2], w[2]);
+    one_round(v3, k[3], w[3])
 }
 
 fn all_rounds(s: State, w: [u32; 64]) -> State
     ensures { result ≡ rounds 64 s w }
 {
-    // A const that is indexed in a loop would be copied to the stack at each turn.
-    let k = K;
+    let (constants, _) = K.as_chunks::<4>();
+    let (words, _) = w.as_chunks::<4>();
     let mut v = s;
-    let mut t = 0;
-    while t < 64 {
-        v = four_rounds(v, &k, &w, t);
-        t += 4;
+    for (k, four) in constants.iter().zip(words) {
+        v = four_rounds(v, k, four);
     }
     v
 }
@@ -230,14 +208,14 @@ fn sum(s: State, t: State) -> State
     ensures { result ≡ added s t }
 {
     State {
-        a: add(s.a, t.a),
-        b: add(s.b, t.b),
-        c: add(s.c, t.c),
-        d: add(s.d, t.d),
-        e: add(s.e, t.e),
-        f: add(s.f, t.f),
-        g: add(s.g, t.g),
-        h: add(s.h, t.h),
+        a: s.a.wrapping_add(t.a),
+        b: s.b.wrapping_add(t.b),
+        c: s.c.wrapping_add(t.c),
+        d: s.d.wrapping_add(t.d),
+        e: s.e.wrapping_add(t.e),
+        f: s.f.wrapping_add(t.f),
+        g: s.g.wrapping_add(t.g),
+        h: s.h.wrapping_add(t.h),
     }
 }
 
@@ -264,15 +242,14 @@ pub fn start() -> State
 }
 
 // The hash value after the whole blocks of m, from s on; bytes behind the last whole block are left out.
+#[tactic(auto, using(lists::proofs::Turns::turns_start), unfolding(crate::specs::Sha256::hashed))]
 pub fn absorb(s: State, m: &[u8]) -> State
     ensures { result ≡ hashed (length m.now / 64) s m.now }
 {
-    let n = m.len() / 64;
+    let (blocks, _) = m.as_chunks::<64>();
     let mut v = s;
-    let mut i = 0;
-    while i < n {
-        v = compress(v, block_at(m, i));
-        i += 1;
+    for bytes in blocks {
+        v = compress(v, words_of(bytes));
     }
     v
 }
@@ -281,61 +258,41 @@ pub fn absorb(s: State, m: &[u8]) -> State
 fn bit_length(n: usize) -> [u8; 8]
     ensures { result ≡ to_byte (8 * n) 8 }
 {
-    [
-        (n / 0x20_0000_0000_0000 % 256) as u8,
-        (n / 0x2000_0000_0000 % 256) as u8,
-        (n / 0x20_0000_0000 % 256) as u8,
-        (n / 0x2000_0000 % 256) as u8,
-        (n / 0x20_0000 % 256) as u8,
-        (n / 0x2000 % 256) as u8,
-        (n / 0x20 % 256) as u8,
-        (n % 0x20 * 8) as u8,
-    ]
+    n.wrapping_mul(8).to_be_bytes()
 }
 
-// p with the bytes of m from place at on.
-fn paste_in(p: [u8; 128], at: usize, m: &[u8]) -> [u8; 128]
-    requires { at + length m.now ≤ 128 }
-    ensures { result ≡ paste p at m.now (length m.now) }
+// The last block or two of a padded message, of which the bytes m are left.
+fn ending<const N: usize>(m: &[u8], bits: [u8; 8]) -> [u8; N]
+    requires { length m.now + 9 ≤ N }
+    ensures { result ≡ m.now ++ (0x80 ∷ (replicate (N - 9 - length m.now) 0 ++ bits)) }
 {
-    let mut q = p;
-    let mut i = 0;
-    while i < m.len() {
-        q[at + i] = m[i];
-        i += 1;
-    }
-    q
-}
-
-// The last block or two of a padded message, of which the bytes m are left; the bit length stands behind `size` bytes.
-fn ending(m: &[u8], size: usize, bits: [u8; 8]) -> [u8; 128]
-    requires { (length m.now < size) × (size ≤ 120) }
-    ensures { take (size + 8) result ≡ m.now ++ (0x80 ∷ (replicate (size - length m.now - 1) 0 ++ bits)) }
-{
-    let mut p = paste_in([0u8; 128], 0, m);
-    p[m.len()] = 0x80;
-    paste_in(p, size, &bits)
+    let mut p = [0u8; N];
+    let out = &mut p[..];
+    out[..m.len()].copy_from_slice(m);
+    out[m.len()] = 0x80;
+    out[N - 8..].copy_from_slice(&bits);
+    p
 }
 
 fn digest_of(s: State) -> [u8; 32]
     ensures { result ≡ digest s }
 {
-    lists::eight_words(s.a, s.b, s.c, s.d, s.e, s.f, s.g, s.h)
+    lists::eight_words([s.a, s.b, s.c, s.d, s.e, s.f, s.g, s.h])
 }
 
-// The hash of a message whose first `before` blocks led to the hash value s, and of which m is left.
+// The hash of a message whose first `before` blocks led to the hash value s, and of which m is left. A count of blocks is cast by `as`: std has
+// no `From` of a u32 for usize.
 pub fn finish(s: State, before: u32, m: &[u8]) -> [u8; 32]
     ensures { result ≡ finished s before m.now }
 {
-    let n = m.len();
-    let from = n / 64 * 64;
     let v = absorb(s, m);
-    let bits = bit_length(wrapping_add_usize(64 * (before as usize), n));
-    if n - from < 56 {
-        let p = ending(&m[from..], 56, bits);
-        digest_of(absorb(v, &p[..64]))
+    let (_, rest) = m.as_chunks::<64>();
+    let bits = bit_length((64 * (before as usize)).wrapping_add(m.len()));
+    if rest.len() < 56 {
+        let p = ending::<64>(rest, bits);
+        digest_of(absorb(v, &p))
     } else {
-        let p = ending(&m[from..], 120, bits);
+        let p = ending::<128>(rest, bits);
         digest_of(absorb(v, &p))
     }
 }
@@ -345,31 +302,16 @@ pub fn joined(a: [u8; 32], b: [u8; 32]) -> [u8; 64]
     ensures { result ≡ a ++ b }
 {
     let mut m = [0u8; 64];
-    let mut i = 0;
-    while i < 32 {
-        m[i] = a[i];
-        m[32 + i] = b[i];
-        i += 1;
-    }
+    m[..32].copy_from_slice(&a);
+    m[32..].copy_from_slice(&b);
     m
 }
 
-// What pads a message of `before` blocks and a half.
-fn half_padding(before: u32) -> [u8; 32]
-    ensures { result ≡ padding (64 * before + 32) }
-{
-    let bits = bit_length(64 * (before as usize) + 32);
-    [
-        0x80, 0, 0, 0, 0, 0, 0, 0, 0, 0, 0, 0, 0, 0, 0, 0, 0, 0, 0, 0, 0, 0, 0, 0, bits[0],
-        bits[1], bits[2], bits[3], bits[4], bits[5], bits[6], bits[7],
-    ]
-}
-
-// What finish gives where half a block is left, as chain steps and addresses end: with its padding it is one block.
+// What finish gives where half a block is left, as with chain steps and addresses: with its ending it fills one block.
 pub fn finish_half(s: State, before: u32, m: [u8; 32]) -> [u8; 32]
     ensures { result ≡ finished s before m }
 {
-    let last = joined(m, half_padding(before));
+    let last = ending::<64>(&m, bit_length(64 * (before as usize) + 32));
     digest_of(absorb(s, &last))
 }
 

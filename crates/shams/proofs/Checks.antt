@@ -1,10 +1,5 @@
 -- A short input at which each sham of checking breaks a promise.
-use mathlib.Core.Path.{◌≡◌, refl, sym, ap, ◌∙◌}
-use mathlib.Core.List.{List, [], ◌++◌}
-use Prim.Native.Nat.{ℕ, zero, suc}
-use native.Mathlib.Omega.{arith}
-use lib.Dec.{lit≤, lit<}
-use lib.ListN.{get_or, replicate}
+use Rattle.std.proofs.Common.{◌≡◌, ℕ, zero, suc, List, [], ◌++◌, get_or, replicate, sym, refl, ap, ◌∙◌, arith, lit<, lit≤}
 use Rattle.lists.specs.Bytes.{to_byte, number}
 use Rattle.lists.specs.Lists.{tab, turns, parts}
 use Rattle.outcomes.specs.Outcome.{unless}

@@ -1,12 +1,6 @@
 -- A short history at which each sham breaks demand 3. Signature bytes stay shut: what counts is the index that they carry.
-use mathlib.Core.Path.{◌≡◌, refl, sym, ap, subst, ◌∙◌}
-use mathlib.Core.Bool.{Bool, true, false, false≢true}
-use mathlib.Core.List.{List, [], ◌∷◌, ◌++◌}
-use mathlib.Core.Logic.{◌⊎◌, inl, ⊎_elim}
-use Prim.Native.Nat.{ℕ, suc, ◌+◌, ◌≤◌, ◌<◌}
-use native.Mathlib.Omega.{arith}
-use lib.ListN.{length, drop, replicate}
-use lib.Dec.{eqb}
+use Rattle.std.proofs.Common.{◌≡◌, ℕ, suc, ◌+◌, ◌<◌, ◌≤◌, Bool, true, false, eqb, ◌⊎◌, List, [], ◌∷◌, ◌++◌, length, drop, replicate, sym, refl, ap, ◌∙◌, subst, inl, ⊎_elim, arith}
+use Rattle.std.proofs.lemmas.Bool.{false≢true}
 use Rattle.lists.specs.Lists.{pick}
 use Rattle.lists.specs.Bytes.{number}
 use Rattle.outcomes.specs.Outcome.{outcome_of}
@@ -78,9 +72,9 @@ module _ (material : List ℕ) (l : length material ≡ 96) where
       let z : ◌≡◌ {A = ℕ} 0 (suc (many [])) = ap many (sym e ∙ o.more) in
       omega arith
 
-  pub refusing_breaks : AlwaysKept (refusing_all (secret_for material)) (key_for material) → ⊥
+  pub refusing_all_breaks : AlwaysKept (refusing_all (secret_for material)) (key_for material) → ⊥
   unfolding run start mark_used bit_used
-  refusing_breaks kept = false≢true (((kept []).full refl).0 refl 0 (omega arith))
+  refusing_all_breaks kept = false≢true (((kept []).full refl).0 refl 0 (omega arith))
 
   pub marking_nothing_breaks : AlwaysKept (marking_nothing (secret_for material)) (key_for material) → ⊥
   unfolding run step call_of

@@ -1,6 +1,6 @@
 -- Ways of checking: the honest one, and shams.
-use Rattle.std.specs.Prelude.{◌≡◌, ◌||◌, ◌↔◌, ℕ, eqb, get_or, drop}
-use mathlib.Core.List.{List, [], ◌∷◌, List-discrete}
+use Rattle.std.specs.Prelude.{◌≡◌, ℕ, ◌||◌, eqb, ◌↔◌, List, [], ◌∷◌, get_or, drop}
+use mathlib.Core.List.{List-discrete}
 use Rattle.std.proofs.Math.Decide.{ℕ_discrete}
 use Rattle.lists.specs.Lists.{pick}
 use Rattle.outcomes.specs.Conditions.{is_not}

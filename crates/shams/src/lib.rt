@@ -2,7 +2,7 @@
 // Uses the promises.
 // Nothing uses it. Each must-fail edit puts the honest way in a sham's place: the theorem then says something false.
 
-#![tactic(auto)]
+#![tactic(auto, using(crate::proofs::Breaks::breaks))]
 
 ghost use Rattle.std.specs.Prelude.{◌≡◌, ℕ, List, length};
 ghost use Rattle.rfc8391.specs.Suite.{Suite};

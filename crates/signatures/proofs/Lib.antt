@@ -1,3 +1,3 @@
 -- The laws of `signatures`.
-pub mod Signed
 pub mod Recomputed
+pub mod Signed

@@ -1,64 +1,48 @@
 -- What the calls of `recomputed_root` give, one after the other.
-use mathlib.Core.Path.{◌≡◌, ◌∙◌}
-use mathlib.Core.List.{List}
-use Prim.Native.Nat.{ℕ, ◌+◌, ◌-◌, ◌*◌, ◌≤◌}
-use native.Mathlib.Omega.{arith}
-use lib.ListN.{length, take, drop, length-take, length-drop}
+use Rattle.std.proofs.Common.{◌≡◌, ℕ, ◌+◌, ◌-◌, ◌*◌, List, length, take, drop, sym, refl, ap, ◌∙◌, ap₂, zero-add, arith, length-drop, take_all, drop-drop}
 use Rattle.lists.specs.Lists.{parts}
 use Rattle.lists.specs.Bytes.{number}
+use Rattle.lists.proofs.Tabs.{tab_ext}
 use Rattle.lists.proofs.Flats.{parts_of_part}
 use Rattle.rfc8391.specs.Suite.{Suite}
 use Rattle.rfc8391.specs.Wots.{len}
 use Rattle.rfc8391.specs.Xmss.{message_digest, root_from_sig}
-use Rattle.rfc8391.specs.Formats.{key_length, key_from, values_start, path_start, signature_length, signature_from, single_tree}
+use Rattle.rfc8391.specs.Formats.{key_from, values_start, path_start, signature_from, single_tree}
 use Rattle.rfc8391.specs.declared.Address.{Address}
-use Rattle.rfc8391.proofs.Values.{value_at}
 use Rattle.signatures.specs.Recomputed.{root_by}
 
--- how long a key and a signature of values of n bytes are, and where its path begins
-pub record Sizes (n p k s h : ℕ) : Type 0 where
-  pub key : k ≡ 4 + n + n
-  pub path : p ≡ 4 + n + n * (2 * n + 3)
-  pub sig : s ≡ p + n * h
+-- what stands behind the type or the index
+pub behind_four : (l : List ℕ) → take (length l - 4) (drop 4 l) ≡ drop 4 l
+behind_four l = take_all (length l - 4) (drop 4 l) (rw length-drop (omega arith))
 
-pub sizes_by : (n w p k s h : ℕ) → w ≡ n → p ≡ path_start n → k ≡ key_length n → s ≡ signature_length n h → Sizes w p k s h
-unfolding path_start key_length signature_length
-sizes_by n w p k s h ew ep ek es = record { key = rw ew ek; path = rw ew ep; sig = rw (ew, ep) es }
+-- the root of a key and r of a signature are the first value there, and the seed of a key is the second and last
+module _ (n w : ℕ) (l part v : List ℕ) (ew : w ≡ n) (ev : take (length part) v ≡ part) where
+  pub first_value : length part ≡ w → part ≡ take w (take (length l - 4) (drop 4 l)) → take n v ≡ take n (drop 4 l)
+  first_value k e = ap (λ (j : ℕ). take j v) (sym (k ∙ ew)) ∙ ev ∙ e ∙ ap₂ (λ (j : ℕ) (r : List ℕ). take j r) ew (behind_four l)
 
-pub values_length : (S : Suite) (n p k h : ℕ) (sig : List ℕ) → S.n ≡ n → Sizes n p k (length sig) h
-    → length (take (p - (4 + n)) (drop (4 + n) sig)) ≡ S.n * len S
-values_length S n p k h sig e z = rw e (simp (length-take, length-drop) (omega (arith, z.path, z.sig)))
-
-pub path_length : (S : Suite) (n p k h : ℕ) (sig : List ℕ) → S.n ≡ n → Sizes n p k (length sig) h → length (take (length sig - p) (drop p sig)) ≡ S.n * h
-path_length S n p k h sig e z = rw e (simp (length-take, length-drop) (omega (arith, z.sig)))
-
--- the seed, which stands behind the root
-pub seed_at : (n w : ℕ) (key v : List ℕ) → w ≡ n → 4 + w + w ≤ length key
-    → take (length (take (4 + w + w - (4 + w)) (drop (4 + w) key))) v ≡ take (4 + w + w - (4 + w)) (drop (4 + w) key)
-    → take n v ≡ take n (drop (4 + n) key)
-seed_at n w key v e h q = value_at n w (4 + w) key v e h q ∙ rw e
+  pub last_value : length l ≡ 4 + n + n → part ≡ drop w (take (length l - 4) (drop 4 l)) → take n v ≡ take n (drop (4 + n) l)
+  last_value k e =
+      let p : part ≡ drop (4 + n) l = e ∙ ap₂ (λ (j : ℕ) (r : List ℕ). drop j r) ew (behind_four l) ∙ drop-drop n 4 l in
+      let q : length (drop (4 + n) l) ≡ n = rw length-drop (omega arith) in
+      ap (λ (j : ℕ). take j v) (sym (ap (λ (r : List ℕ). length r) p ∙ q)) ∙ ev ∙ p ∙ sym (take_all n (drop (4 + n) l) (omega (arith, q)))
 
 module _ (S : Suite) (key m sig : List ℕ) (h : ℕ) where
-  -- the two parts of a signature hold its values and its path
-  values_in_lem : (w p : ℕ) → w ≡ S.n → p ≡ path_start w → parts S.n (len S) 0 (take (p - (4 + w)) (drop (4 + w) sig)) ≡ (signature_from S.n h sig).values
-  unfolding signature_from values_start path_start
-  values_in_lem w p ew ep =
-      let z : p - (4 + w) ≡ w * (2 * w + 3) = omega arith in
-      rw (z, ew) (parts_of_part S.n (len S) (4 + S.n) (S.n * len S) sig (omega arith))
+  -- what stands behind r, and its two parts: the values and the path
+  module _ (w : ℕ) (rest values path : List ℕ) (ew : w ≡ S.n) (er : rest ≡ drop w (take (length sig - 4) (drop 4 sig)))
+      (ev : values ≡ take (w * (2 * w + 3)) rest) (ep : path ≡ drop (w * (2 * w + 3)) rest) where
+    behind_r : rest ≡ drop (4 + S.n) sig
+    behind_r = er ∙ ap₂ (λ (j : ℕ) (r : List ℕ). drop j r) ew (behind_four sig) ∙ drop-drop S.n 4 sig
 
-  path_in : (w p : ℕ) → w ≡ S.n → p ≡ path_start w → length sig ≡ signature_length w h
-      → parts S.n h 0 (take (length sig - p) (drop p sig)) ≡ (signature_from S.n h sig).auth
-  unfolding signature_from path_start signature_length
-  path_in w p ew ep el =
-      let z : length sig - p ≡ w * h = omega arith in
-      rw (z, ep, ew) (parts_of_part S.n h (4 + S.n + S.n * len S) (S.n * h) sig (omega arith))
+    values_in_lem : parts S.n (len S) 0 values ≡ (signature_from S.n h sig).values
+    unfolding signature_from values_start
+    values_in_lem = rw (ev, behind_r, ew) (parts_of_part S.n (len S) (4 + S.n) (S.n * len S) sig (omega arith))
 
-  pub recomputes : (w p i : ℕ) (a : Address) (seed root r digest x : List ℕ) → w ≡ S.n → p ≡ path_start w → length sig ≡ signature_length w h
-      → seed ≡ take S.n (drop (4 + S.n) key) → root ≡ take S.n (drop 4 key) → r ≡ take S.n (drop 4 sig) → i ≡ number sig 0 4 → a ≡ single_tree
-      → digest ≡ message_digest S r root i m
-      → x ≡ root_from_sig S seed a h i (parts S.n (len S) 0 (take (p - (4 + w)) (drop (4 + w) sig)))
-      (parts S.n h 0 (take (length sig - p) (drop p sig))) digest
-      → x ≡ root_by S S.n h key m sig
-  unfolding key_from signature_from
-  recomputes w p i a seed root r digest x ew ep el es eo er ei ea ed ex =
-      rw (ex, values_in_lem w p ew ep, path_in w p ew ep el, ed, es, eo, er, ei, ea)
+    path_in : parts S.n h 0 path ≡ (signature_from S.n h sig).auth
+    unfolding signature_from path_start parts
+    path_in = rw (ep, behind_r, ew, drop-drop) (tab_ext h _ _ (λ c q. rw (zero-add, drop-drop) refl))
+
+    pub recomputes : (i : ℕ) (a : Address) (seed root r digest x : List ℕ) → seed ≡ take S.n (drop (4 + S.n) key) → root ≡ take S.n (drop 4 key)
+        → r ≡ take S.n (drop 4 sig) → i ≡ number sig 0 4 → a ≡ single_tree → digest ≡ message_digest S r root i m
+        → x ≡ root_from_sig S seed a h i (parts S.n (len S) 0 values) (parts S.n h 0 path) digest → x ≡ root_by S S.n h key m sig
+    unfolding key_from signature_from
+    recomputes i a seed root r digest x es eo et ei ea ed ex = rw (ex, values_in_lem, path_in, ed, es, eo, et, ei, ea)

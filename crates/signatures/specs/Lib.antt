@@ -1,3 +1,2 @@
--- The parts of a signature, and the root to which one leads, as the code gets at them.
-pub mod Parts
+-- The root to which a signature leads, as the code gets at it.
 pub mod Recomputed

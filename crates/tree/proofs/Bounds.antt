@@ -1,10 +1,5 @@
 -- Where positions lie: a node's leaves are among 2 ^ 20, and so are its children's and its sibling's.
-use mathlib.Core.Path.{◌≡◌, sym, ap, ◌∙◌}
-use mathlib.Core.Logic.{⊎_elim}
-use Prim.Native.Nat.{ℕ, suc, ◌+◌, ◌-◌, ◌*◌, ◌/◌, ◌%◌, ◌^◌, ◌<◌, ◌≤◌}
-use native.Mathlib.Nat.{pow-suc, add-mul, mul_assoc, mul-le-mul_right, div-lt_iff_lt-mul, eq-zero-or-pos}
-use native.Mathlib.Omega.{arith}
-use lib.Pow.{pow_pos, pow-add, pow_mono}
+use Rattle.std.proofs.Common.{◌≡◌, ℕ, suc, ◌+◌, ◌-◌, ◌*◌, ◌/◌, ◌%◌, ◌^◌, ◌<◌, ◌≤◌, sym, ap, ◌∙◌, ⊎_elim, mul-le-mul_right, mul_assoc, div-lt_iff_lt-mul, add-mul, eq-zero-or-pos, pow-suc, arith, pow_pos, pow_mono, pow-add}
 use Rattle.rfc8391.specs.Xmss.{sibling}
 use Rattle.rfc8391.proofs.Trees.{sibling_of_left, sibling_of_right}
 
@@ -39,19 +34,12 @@ sibling_below p d q =
     (λ (z : 0 < p % 2). rw (sibling_of_right p (λ n. omega arith)) (omega arith))
     (eq-zero-or-pos (p % 2))
 
-pub sibling_within : (h i k p b : ℕ) → h ≤ 20 → i < 2 ^ h → k < h → p ≡ i / 2 ^ k → b ≡ sibling p → Within k b
-sibling_within h i k p b t q l ep eb =
+pub sibling_within : (h i k b : ℕ) → h ≤ 20 → i < 2 ^ h → k < h → b ≡ sibling (i / 2 ^ k) → Within k b
+sibling_within h i k b t q l eb =
     let s : h - k ≡ suc (h - k - 1) = omega arith in
-    let pb : p < 2 ^ suc (h - k - 1) = rw (← s, ep) (ancestor_below h i k q (omega arith)) in
-    let bb : b < 2 ^ (h - k) = rw (s, eb) (sibling_below p (h - k - 1) pb) in
+    let pb : i / 2 ^ k < 2 ^ suc (h - k - 1) = rw (← s) (ancestor_below h i k q (omega arith)) in
+    let bb : b < 2 ^ (h - k) = rw (s, eb) (sibling_below (i / 2 ^ k) (h - k - 1) pb) in
     let m : (b + 1) * 2 ^ k ≤ 2 ^ (h - k) * 2 ^ k = mul-le-mul_right (2 ^ k) (omega arith) in
     let e : 2 ^ (h - k) * 2 ^ k ≡ 2 ^ h = sym (pow-add 2 (h - k) k) ∙ ap (λ (n : ℕ). 2 ^ n) (omega arith) in
     let u : 2 ^ h ≤ 2 ^ 20 = pow_mono t in
-    omega arith
-
--- the position is a u32 well within 2 ^ 20
-pub position_below : (h i k p : ℕ) → h ≤ 20 → i < 2 ^ h → k ≤ h → p ≡ i / 2 ^ k → p < 1048576
-position_below h i k p t q l e =
-    let b : p < 2 ^ (h - k) = rw e (ancestor_below h i k q l) in
-    let u : 2 ^ (h - k) ≤ 2 ^ 20 = pow_mono {j = 20} (omega arith) in
     omega arith

@@ -1,9 +1,5 @@
 -- Joins, leaves and roots from what the calls give.
-use mathlib.Core.Path.{◌≡◌, sym, ap, ap₂, ◌∙◌}
-use mathlib.Core.List.{List, [], ◌++◌}
-use Prim.Native.Nat.{ℕ, ◌+◌, ◌-◌, ◌*◌, ◌<◌, ◌≤◌}
-use native.Mathlib.Nat.{zero-add}
-use lib.ListN.{length, get_or, take, drop}
+use Rattle.std.proofs.Common.{◌≡◌, ℕ, ◌*◌, ◌<◌, ◌≤◌, List, [], ◌++◌, length, get_or, take, drop, sym, ap, ◌∙◌, ap₂, zero-add}
 use Rattle.lists.specs.Lists.{parts}
 use Rattle.lists.proofs.Tabs.{get_or-tab}
 use Rattle.rfc8391.specs.Suite.{Suite, xor}
@@ -13,12 +9,13 @@ use Rattle.rfc8391.specs.Xmss.{ots_at, ltree_at, rand_hash, ltree, leaf_of}
 use Rattle.rfc8391.specs.House.{secrets}
 use Rattle.rfc8391.specs.declared.Address.{Address}
 use Rattle.rfc8391.proofs.Chains.{pk_ext}
-use Rattle.rfc8391.proofs.Values.{xor_front, value_at}
-use Rattle.keyed.specs.Seeds.{suite_of, held, seed_of}
+use Rattle.rfc8391.proofs.Values.{xor_front}
+use Rattle.keyed.specs.Seeds.{suite_of, held, held_all, seed_of}
 use Rattle.keyed.specs.declared.Seed.{Seed}
 use Rattle.onetime.specs.Secrets.{value_of}
 use Rattle.onetime.specs.declared.Secrets.{Secrets}
-use Rattle.tree.specs.Keys.{leaf_at}
+use Rattle.tree.specs.Keys.{leaf_at, leaves}
+use Rattle.tree.specs.declared.Tree.{Tree}
 
 -- a join, from its key, its masks and their exclusive ors; a value stands at the front of 32 bytes
 pub join_by : (S : Suite) (seed : List ℕ) (a : Address) (l r key m₁ m₂ x y out : List ℕ) → S.n ≤ 32
@@ -29,28 +26,32 @@ unfolding rand_hash
 join_by S seed a l r key m₁ m₂ x y out h ek e₁ e₂ ex ey eo =
     rw (eo, ex, ey, xor_front S.n 32 l m₁ h, xor_front S.n 32 r m₂ h, ek, e₁, e₂)
 
--- the secret values that are ready for leaf i are the key's
-pub value_is : (S : Suite) (sk seed : List ℕ) (a : Address) (i : ℕ) (x : Secrets) → x.secret ≡ sk → x.public ≡ seed → x.at ≡ ots_at a i
-    → suite_of x.leaf ≡ S → (c : ℕ) → value_of x c ≡ secrets S (take S.n sk) (take S.n seed) a i c
+-- the secret values that are ready for leaf i are the tree's
+pub value_is : (t : Tree) (i : ℕ) (x : Secrets) → x.secret ≡ t.secret → x.seed ≡ t.seed → x.at ≡ ots_at t.at i
+    → (c : ℕ) → value_of x c ≡ secrets (suite_of t.seed) (held t.seed t.secret) (seed_of t.seed) t.at i c
 unfolding value_of secrets
-value_is S sk seed a i x es ep ea eS c = rw (eS, es, ep, ea)
+value_is t i x es ep ea c = rw (es, ep, ea)
 
 -- a leaf, from the chain ends of its secret values
-pub leaf_by : (sk : List ℕ) (s : Seed) (a : Address) (i : ℕ) (x : Secrets) (b : Address) (ends : List (List ℕ)) (r : List ℕ)
-    → x.secret ≡ sk → x.public ≡ s.bytes → x.at ≡ ots_at a i → suite_of x.leaf ≡ suite_of s
-    → ends ≡ wots_pk (suite_of s) (seed_of s) x.at (value_of x) → b ≡ ltree_at a i → r ≡ ltree (suite_of s) (seed_of s) b ends → r ≡ leaf_at (held s sk) s a i
+pub leaf_by : (t : Tree) (i : ℕ) (x : Secrets) (b : Address) (ends : List (List ℕ)) (r : List ℕ)
+    → x.secret ≡ t.secret → x.seed ≡ t.seed → x.at ≡ ots_at t.at i → held_all x.seed ends ≡ wots_pk (suite_of x.seed) (seed_of x.seed) x.at (value_of x)
+    → b ≡ ltree_at t.at i → r ≡ ltree (suite_of t.seed) (seed_of t.seed) b (held_all t.seed ends) → r ≡ leaves t i
 unfolding leaf_at leaf_of
-leaf_by sk s a i x b ends r es ep ea eS ee eb er =
-    er ∙ ap₂ (ltree (suite_of s) (seed_of s)) eb
-    (ee ∙ ap (λ (c : Address). wots_pk (suite_of s) (seed_of s) c (value_of x)) ea
-    ∙ pk_ext (suite_of s) (seed_of s) (ots_at a i) _ _ (value_is (suite_of s) sk s.bytes a i x es ep ea eS))
+leaf_by t i x b ends r es ep ea ee eb er =
+    er ∙ ap₂ (ltree (suite_of t.seed) (seed_of t.seed)) eb
+    (ap (λ (s : Seed). held_all s ends) (sym ep)
+    ∙ ee
+    ∙ ap₂ (λ (s : Seed) (c : Address). wots_pk (suite_of s) (seed_of s) c (value_of x)) ep ea
+    ∙ pk_ext (suite_of t.seed) (seed_of t.seed) (ots_at t.at i) _ _ (value_is t i x es ep ea))
 
--- a node of a path, read at its place; w is how the code has n
-pub node_read : (n w h : ℕ) (path r : List ℕ) (k : ℕ) → w ≡ n → k < h → w * k + w ≤ length path
-    → take (length (take (w * k + w - w * k) (drop (w * k) path))) r ≡ take (w * k + w - w * k) (drop (w * k) path)
-    → take n r ≡ get_or (parts n h 0 path) k []
+-- node k of a path, which is split off as its next part; w is how the code has n
+pub node_read : (n w h : ℕ) (path part r : List ℕ) (k : ℕ) → w ≡ n → k < h → part ≡ take w (drop (w * k) path) → length part ≡ w
+    → take (length part) r ≡ part → take n r ≡ get_or (parts n h 0 path) k []
 unfolding parts
-node_read n w h path r k ew q l er =
-    value_at n w (w * k) path r ew l er
-    ∙ ap (λ (j : ℕ). take n (drop j path)) (ap (λ (v : ℕ). v * k) ew ∙ sym (zero-add (n * k)))
+node_read n w h path part r k ew q ep l er =
+    ap (λ (j : ℕ). take j r) (sym (l ∙ ew))
+    ∙ er
+    ∙ ep
+    ∙ ap (λ (v : ℕ). take v (drop (v * k) path)) ew
+    ∙ ap (λ (j : ℕ). take n (drop j path)) (sym (zero-add (n * k)))
     ∙ sym (get_or-tab h _ [] k q)

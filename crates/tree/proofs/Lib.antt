@@ -2,3 +2,4 @@
 pub mod Joins
 pub mod Rounds
 pub mod Bounds
+pub mod Parts

@@ -1,10 +1,5 @@
 -- A round of the L-tree in place, and all of them.
-use mathlib.Core.Path.{◌≡◌, sym, ap, ◌∙◌}
-use mathlib.Core.List.{List, []}
-use Prim.Native.Nat.{ℕ, ◌+◌, ◌-◌, ◌*◌, ◌/◌, ◌%◌, ◌<◌, ◌≤◌}
-use native.Mathlib.Omega.{arith}
-use lib.ListN.{length, get_or, take, set}
-use lib.Seq.{length-take-le, get_or-take}
+use Rattle.std.proofs.Common.{◌≡◌, ℕ, ◌+◌, ◌-◌, ◌*◌, ◌/◌, ◌%◌, ◌<◌, ◌≤◌, List, [], length, get_or, take, set, sym, ap, ◌∙◌, arith, length-take-le, get_or-take}
 use Rattle.lists.specs.Lists.{turns}
 use Rattle.lists.specs.Loops.{Replacing}
 use Rattle.lists.proofs.Replacing.{replacing_more, replacing_read}

@@ -7,62 +7,54 @@
 ghost use Rattle.std.specs.Prelude.{◌≡◌, ◌+◌, ◌*◌, ◌/◌, ◌%◌, ◌^◌, ◌<◌, ◌≤◌, length};
 ghost use Rattle.lists.specs.Lists.{flat};
 ghost use Rattle.rfc8391.specs.Wots.{len};
-ghost use Rattle.rfc8391.specs.Xmss.{tree_at, sibling, rand_hash, ltree_round, ltree, node, auth_path, climb, root_from_path, root_from_sig};
-ghost use Rattle.keyed.specs.Seeds.{suite_of, held, held_first, held_all, values_in, seed_of, Prepared};
-ghost use Rattle.tree.specs.Keys.{leaf_at};
+ghost use Rattle.rfc8391.specs.Xmss.{ots_at, tree_at, sibling, rand_hash, ltree_round, ltree, node, auth_path, climb, root_from_path, root_from_sig};
+ghost use Rattle.rfc8391.specs.Formats.{single_tree};
+ghost use Rattle.keyed.specs.Seeds.{suite_of, held, held_first, held_all, values_in, seed_of};
+ghost use Rattle.tree.specs.Keys.{leaves};
 
 use keyed::Seed;
-use rfc8391::Address;
+use onetime::Secrets;
+use rfc8391::{Address, Hash};
 
-// Two values joined. The selector is set for each key and mask, so that none is left over.
+// Two values joined. The selector is set for each key and mask, so that none is left over. Seed and address are two arguments here and
+// below, for the reason that onetime gives: calls change the address alone.
 fn join(s: Seed, a: Address, left: [u8; 32], right: [u8; 32]) -> [u8; 32]
-    requires { Prepared s }
     ensures { held s result ≡ rand_hash (suite_of s) (seed_of s) a (held s left) (held s right) }
 {
-    let key = keyed::prf(s, a.set_key_and_mask(0).encode());
-    let left_mask = keyed::prf(s, a.set_key_and_mask(1).encode());
-    let right_mask = keyed::prf(s, a.set_key_and_mask(2).encode());
+    let key = s.prf_at(a.for_key());
+    let left_mask = s.prf_at(a.for_mask());
+    let right_mask = s.prf_at(a.for_right_mask());
     keyed::h(
-        s,
+        s.hash,
         key,
         rfc8391::xored(left, left_mask),
         rfc8391::xored(right, right_mask),
     )
 }
 
-// One round over the first w values, in place: a pair's join is stored where no later pair reads.
+// One round over the first w values, in place: a pair's join is stored where no later pair reads. The array is as long as the longest, as
+// that of onetime's digits.
 fn ltree_round(s: Seed, a: Address, height: u32, mut v: [[u8; 32]; 67], w: usize) -> [[u8; 32]; 67]
-    requires { Prepared s × (w ≤ 67) }
+    requires { w ≤ 67 }
     ensures { held_first s ((w + 1) / 2) result ≡ ltree_round (suite_of s) (seed_of s) a height (held_first s w v) }
 {
-    let half = w / 2;
-    let mut i = 0;
-    while i < half {
-        let left = v[2 * i];
-        let right = v[2 * i + 1];
-        let joined = join(
-            s,
-            a.set_tree_height(height).set_tree_index(i as u32),
-            left,
-            right,
-        );
-        v[i] = joined;
-        i += 1;
+    for i in 0..w / 2 {
+        let at = a.set_tree_height(height).set_tree_index(i as u32);
+        v[i] = join(s, at, v[2 * i], v[2 * i + 1]);
     }
     if w % 2 == 1 {
-        let last = v[w - 1];
-        v[half] = last;
+        v[w / 2] = v[w - 1];
     }
     v
 }
 
-// The L-tree over the chain ends: rounds until one value is left.
+// The L-tree over the chain ends: rounds until one value is left. How many there are is not known before, so that the loop ends by the width
+// and counts them beside it. `next` is for the borrow checker, as in a walk of onetime.
 fn ltree_root(s: Seed, a: Address, ends: [[u8; 32]; 67]) -> [u8; 32]
-    requires { Prepared s }
     ensures { held s result ≡ ltree (suite_of s) (seed_of s) a (held_all s ends) }
 {
     let mut v = ends;
-    let mut w = 2 * keyed::value_length_of(s) + 3;
+    let mut w = 2 * s.value_length() + 3;
     let mut height: u32 = 0;
     while 1 < w {
         let next = ltree_round(s, a, height, v, w);
@@ -71,16 +63,6 @@ fn ltree_root(s: Seed, a: Address, ends: [[u8; 32]; 67]) -> [u8; 32]
         height += 1;
     }
     v[0]
-}
-
-// The leaf i of the key with this secret seed.
-pub fn leaf(secret: [u8; 32], s: Seed, a: Address, i: u32) -> [u8; 32]
-    requires { Prepared s }
-    ensures { held s result ≡ leaf_at (held s secret) s a i }
-{
-    let x = onetime::secrets_of(secret, s, a.ots_at(i));
-    let ends = onetime::ends_of(x, s);
-    ltree_root(s, a.ltree_at(i), ends)
 }
 
 // A join on the way up carries the height of the two nodes and the position of the one above them.
@@ -92,59 +74,77 @@ fn join_at(
     left: [u8; 32],
     right: [u8; 32],
 ) -> [u8; 32]
-    requires { Prepared s }
     ensures { held s result ≡ rand_hash (suite_of s) (seed_of s) (tree_at a height above) (held s left) (held s right) }
 {
     join(s, a.tree_at(height, above), left, right)
 }
 
-// The node of a height at a position, from its two nodes of the height below.
-pub fn node_at(secret: [u8; 32], s: Seed, a: Address, height: u32, position: u32) -> [u8; 32]
-    requires { Prepared s × ((position + 1) * 2 ^ height ≤ 1048576) }
-    ensures { held s result ≡ node (suite_of s) (seed_of s) a (leaf_at (held s secret) s a) height position }
-{
-    if height == 0 {
-        leaf(secret, s, a, position)
-    } else {
-        let k = height - 1;
-        let left = node_at(secret, s, a, k, 2 * position);
-        let right = node_at(secret, s, a, k, 2 * position + 1);
-        join_at(s, a, k, position, left, right)
-    }
+// One key's tree: the secret seed of its leaves, the public seed, and the address, which carries layer and tree.
+#[derive(Clone, Copy)]
+pub struct Tree {
+    pub secret: [u8; 32],
+    pub seed: Seed,
+    pub at: Address,
 }
 
-// The other position of a pair.
-fn beside(position: u32) -> u32
-    requires { position < 1048576 }
-    ensures { result ≡ sibling position }
-{
-    if position % 2 == 0 {
-        position + 1
-    } else {
-        position - 1
+impl Tree {
+    // The one tree of a key of XMSS.
+    pub fn single(hash: Hash, secret: [u8; 32], public: [u8; 32]) -> Self
+        ensures { (result.secret ≡ secret) × (result.seed.bytes ≡ public) × (result.seed.hash ≡ hash) × (result.at ≡ single_tree) }
+    {
+        Self {
+            secret,
+            seed: Seed::prepare(hash, public),
+            at: Address::single_tree(),
+        }
     }
-}
 
-// The path of a leaf into a lent part: at each height the sibling of the leaf's ancestor, from the leaf up.
-pub fn write_path(out: &mut [u8], secret: [u8; 32], s: Seed, a: Address, height: u32, index: u32)
-    requires { Prepared s × (height ≤ 20) × (index < 2 ^ height) × (length out.old ≡ (suite_of s).n * height) }
-    ensures { out.new ≡ flat (auth_path (suite_of s) (seed_of s) a (leaf_at (held s secret) s a) height index) }
-{
-    let n = keyed::value_length_of(s);
-    let mut position = index;
-    let mut k = 0;
-    while k < height {
-        let at = n * (k as usize);
-        let other = node_at(secret, s, a, k, beside(position));
-        rfc8391::write_value(&mut out[at..at + n], other);
-        position /= 2;
-        k += 1;
+    // What the secret values of leaf i need.
+    pub fn secrets(self, i: u32) -> Secrets
+        ensures { (result.secret ≡ self.secret) × (result.seed ≡ self.seed) × (result.at ≡ ots_at self.at i) }
+    {
+        Secrets::prepare(self.secret, self.seed, self.at.ots_at(i))
+    }
+
+    pub fn leaf(self, i: u32) -> [u8; 32]
+        ensures { held self.seed result ≡ leaves self i }
+    {
+        ltree_root(self.seed, self.at.ltree_at(i), self.secrets(i).ends())
+    }
+
+    // The node of a height at a position, from its two nodes of the height below.
+    pub fn node(self, height: u32, position: u32) -> [u8; 32]
+        requires { (position + 1) * 2 ^ height ≤ 1048576 }
+        ensures { held self.seed result ≡ node (suite_of self.seed) (seed_of self.seed) self.at (leaves self) height position }
+    {
+        if height == 0 {
+            self.leaf(position)
+        } else {
+            let k = height - 1;
+            let left = self.node(k, 2 * position);
+            let right = self.node(k, 2 * position + 1);
+            join_at(self.seed, self.at, k, position, left, right)
+        }
+    }
+
+    // The path of a leaf into a lent part: at each height the sibling of the leaf's ancestor, from the leaf up.
+    pub fn write_path(self, out: &mut [u8], height: u32, index: u32)
+        requires { (height ≤ 20) × (index < 2 ^ height) × (length out.old ≡ (suite_of self.seed).n * height) }
+        ensures { out.new ≡ flat (auth_path (suite_of self.seed) (seed_of self.seed) self.at (leaves self) height index) }
+    {
+        let n = self.seed.value_length();
+        // By places, and not by `chunks_exact_mut`: after such a loop nothing is known of what it wrote into the buffer. A height goes to usize
+        // by `as`, and in `ltree_round` an index to u32: std has no `From` for either.
+        for k in 0..height {
+            let at = n * (k as usize);
+            let other = self.node(k, (index >> k) ^ 1);
+            rfc8391::write_value(&mut out[at..at + n], other);
+        }
     }
 }
 
 // From a node of height k at a position to the one above, by its sibling: an even position is a left one.
 fn climb_by(s: Seed, a: Address, k: u32, position: u32, v: [u8; 32], other: [u8; 32]) -> [u8; 32]
-    requires { Prepared s }
     ensures { held s result ≡ climb (suite_of s) (seed_of s) a k position (held s v) (held s other) }
 {
     if position % 2 == 0 {
@@ -154,7 +154,8 @@ fn climb_by(s: Seed, a: Address, k: u32, position: u32, v: [u8; 32], other: [u8;
     }
 }
 
-// The root that a leaf and its path of `height` nodes lead to.
+// The root that a leaf and its path of `height` nodes lead to. That a path has so many, of the suite's n bytes each, is asked here and below:
+// a type of such slices would hold seed and height too.
 fn root_from_path(
     s: Seed,
     a: Address,
@@ -163,19 +164,21 @@ fn root_from_path(
     start: [u8; 32],
     path: &[u8],
 ) -> [u8; 32]
-    requires { Prepared s × (height ≤ 20) × (length path.now ≡ (suite_of s).n * height) }
+    requires { length path.now ≡ (suite_of s).n * height }
     ensures { held s result ≡ root_from_path (suite_of s) (seed_of s) a height index (held s start) (values_in s height path.now) }
 {
-    let n = keyed::value_length_of(s);
+    let n = s.value_length();
+    // `next` is as in `ltree_root`. Each node is split off: of a `zip` of the heights and `chunks_exact(n)` a proof knows the pairs so far, and
+    // not that a node is that of k.
+    let mut rest = path;
     let mut v = start;
     let mut position = index;
-    let mut k = 0;
-    while k < height {
-        let at = n * (k as usize);
-        let next = climb_by(s, a, k, position, v, rfc8391::value_of(&path[at..at + n]));
+    for k in 0..height {
+        let (node, after) = rest.split_at(n);
+        let next = climb_by(s, a, k, position, v, rfc8391::value_of(node));
         v = next;
         position /= 2;
-        k += 1;
+        rest = after;
     }
     v
 }
@@ -191,8 +194,7 @@ pub fn root_from_signature(
     path: &[u8],
     m: [u8; 32],
 ) -> [u8; 32]
-    requires { Prepared s × (height ≤ 20)
-        × (length values.now ≡ (suite_of s).n * len (suite_of s)) × (length path.now ≡ (suite_of s).n * height) }
+    requires { (length values.now ≡ (suite_of s).n * len (suite_of s)) × (length path.now ≡ (suite_of s).n * height) }
     ensures { held s result
         ≡ root_from_sig (suite_of s) (seed_of s) a height index
         (values_in s (len (suite_of s)) values.now) (values_in s height path.now) (held s m) }

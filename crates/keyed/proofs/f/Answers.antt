@@ -1,9 +1,7 @@
 -- By the hash.
+use Rattle.std.proofs.Common.{rules}
 use Rattle.keyed.proofs.Suites.{only_sha2, f_in_sha2}
-use Rattle.keyed.specs.Seeds.{suite_of}
-use borrow.Author.Rules.{rules}
 use Rattle.keyed.proofs.f.Goals as goal
 
 pub returns : goal.returns
-unfolding suite_of
 returns c = f_in_sha2 _ (only_sha2 _) _ _ _ (search rules) (search rules) c.f.type_inv.1.0.1 c.f.ensures

@@ -1,5 +1,5 @@
 -- By the hash.
-use native.Mathlib.Omega.{arith}
+use Rattle.std.proofs.Common.{arith}
 use Rattle.rfc8391.specs.Formats.{value_length}
 use Rattle.keyed.proofs.Suites.{only_sha2}
 use Rattle.keyed.proofs.value_length.Goals as goal

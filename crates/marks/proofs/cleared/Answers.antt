@@ -1,12 +1,8 @@
 -- The byte less its mark's bit, which it has.
-use mathlib.Core.Path.{ap}
-use Prim.Native.Nat.{ℕ, ◌-◌}
+use Rattle.std.proofs.Common.{ℕ, ◌-◌, ap}
 use Rattle.marks.specs.Page.{cleared}
 use Rattle.marks.proofs.Bytes.{has_bit}
 use Rattle.marks.proofs.cleared.Goals as goal
-
-pub bit_of-requires : goal.bit_of-requires
-bit_of-requires c = c.requires.0
 
 pub overflow_sub-result : goal.overflow_sub-result
 overflow_sub-result c = rw c.bit_of.ensures (has_bit c.args.b c.args.mark c.requires.1)

@@ -1,12 +1,7 @@
 -- Exactly the first n marks of the bytes read are used.
-use mathlib.Core.Path.{◌≡◌}
-use Prim.Native.Nat.{◌-◌, ◌*◌, ◌≤◌}
-use lib.ListN.{length}
+use Rattle.std.proofs.Common.{◌≡◌, ◌*◌, ◌≤◌, length}
 use Rattle.marks.proofs.Ordered.{FirstUsed}
 use Rattle.marks.proofs.count.Given as goal
 
 abbrev pub invariant-loop-i : goal.invariant-loop-i
-invariant-loop-i l = (length l.page ≡ 128) × (l.i ≤ 128) × (l.n ≤ 8 * l.i) × FirstUsed l.page l.n (8 * l.i)
-
-abbrev pub decreases-loop-i : goal.decreases-loop-i
-decreases-loop-i l = 128 - l.i
+invariant-loop-i l = (length l.page ≡ 128) × (l.n ≤ 8 * l.i) × FirstUsed l.page l.n (8 * l.i)

@@ -1,23 +1,34 @@
-use native.Mathlib.Omega.{arith}
-use lib.ListN.{replicate, length-append}
-use Prim.Native.Nat.{◌+◌}
-use mathlib.Core.Path.{refl, ◌∙◌}
-use Rattle.rfc8391.proofs.Digits.{length-base_w}
-use Rattle.rfc8391.specs.Wots.{digits}
+use Rattle.std.proofs.Common.{◌≡◌, ℕ, ◌+◌, ◌-◌, ◌*◌, ◌^◌, List, ◌++◌, length, take, drop, replicate, ap, ◌∙◌, div-one, arith, length-append, length-drop, length-take}
+use Rattle.rfc8391.proofs.Digits.{length-base_w, base_w_small}
+use Rattle.rfc8391.specs.Wots.{base_w, checksum}
 use Rattle.lists.specs.Bytes.{to_byte}
-use Rattle.lists.proofs.Tabs.{tab-get_or}
-use Rattle.lists.proofs.Filling.{filling_start, filling_more, filling_front}
+use Rattle.onetime.proofs.Digits.{front_written, both_written}
+use Rattle.std.proofs.lemmas.List.{get_or_default}
 use Rattle.onetime.proofs.digits_of.Goals as goal
+use Rattle.onetime.proofs.digits_of.Goals.{After-write_digits}
 
-pub loop-i-init : goal.loop-i-init
-loop-i-init c = (filling_start 67 _ (replicate 67 0) refl, omega arith)
+front : (c : After-write_digits) → c.write_digits.new.out ≡ base_w c.args.m c.args.k
+front c =
+    let k = c.args.k in
+    let l : length (take k (replicate 67 0)) ≡ k = simp length-take (omega arith) in
+    c.write_digits.ensures ∙ ap (base_w c.args.m) l
 
-pub loop-i-preserved : goal.loop-i-preserved
-loop-i-preserved c = (filling_more 67 _ _ _ _ c.digit_of.ensures (omega arith) c.loop-i.invariant.0, omega arith)
+pub checksum_of-shifted-requires : goal.checksum_of-shifted-requires
+checksum_of-shifted-requires c =
+    let a = c.args in
+    rw (front_written a.k a.m _ c.write_digits.new.out (front (goal.at.checksum_of-shifted-requires c).After-write_digits))
+    (λ i d h. rw (get_or_default (base_w a.m a.k) i d 0 h) (base_w_small a.m a.k i), rw length-base_w c.requires)
 
 pub returns : goal.returns
-unfolding digits to_byte
+unfolding to_byte
 returns c =
-    let e = c.checksum_of-shifted.ensures.0 in
-    rw (← e) (filling_front 67 _ _ _ (c.args.k + 3) (omega arith) c.loop-i.invariant.0 ∙ tab-get_or _ _ 0
-    (simp (length-append, length-base_w)))
+    let a = c.args in
+    let x = c.write_digits.new.out in
+    let y = c.write_digits-2 in
+    let f = front (goal.at.returns c).After-write_digits in
+    let sum : c.checksum_of-shifted.result ≡ checksum (base_w a.m a.k) = c.checksum_of-shifted.ensures.0 ∙ ap checksum (front_written a.k a.m _ x f) in
+    let s : c.to_be_bytes.result ≡ to_byte (checksum (base_w a.m a.k) * 2 ^ 4) 2 = rw (← sum, div-one) c.to_be_bytes.ensures in
+    let lx : length x ≡ a.k = ap (λ (l : List ℕ). length l) f ∙ length-base_w a.m a.k in
+    let l : length (take (a.k + 3 - a.k) (drop a.k (x ++ drop a.k (replicate 67 0)))) ≡ 3 =
+    simp (length-take, length-drop, length-append) (omega (arith, lx)) in
+    both_written a.k a.m _ x f y.new.out c.to_be_bytes.result _ (y.ensures ∙ ap (base_w c.to_be_bytes.result) l) s

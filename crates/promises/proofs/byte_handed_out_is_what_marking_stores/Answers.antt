@@ -1,6 +1,5 @@
 -- By the law `store_is_mark`, for a page of bytes.
-use mathlib.Core.Path.{◌≡◌, sym, subst}
-use native.Mathlib.Omega.{arith}
+use Rattle.std.proofs.Common.{◌≡◌, sym, subst, arith}
 use Rattle.lists.specs.Bytes.{Bytes}
 use Rattle.marks.specs.Shown.{StoredByte}
 use Rattle.marks.specs.declared.Reserved.{Reserved}

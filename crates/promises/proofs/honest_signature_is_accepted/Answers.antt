@@ -1,5 +1,5 @@
 -- The law `honest_checks`, of what checking answers.
-use mathlib.Core.Path.{ap, ◌∙◌}
+use Rattle.std.proofs.Common.{ap, ◌∙◌}
 use Rattle.operations.specs.declared.Checked.{Checked}
 use Rattle.promises.proofs.Making.{pair_key}
 use Rattle.promises.proofs.Honest.{honest_checks}

@@ -1,5 +1,5 @@
 -- The first of `numbers`.
-use mathlib.Core.Path.{ap, ◌∙◌}
+use Rattle.std.proofs.Common.{ap, ◌∙◌}
 use Rattle.operations.specs.declared.Checked.{Checked}
 use Rattle.keyed.specs.Suites.{suite}
 use Rattle.operations.specs.Check.{check_of}

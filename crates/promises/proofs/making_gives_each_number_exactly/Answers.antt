@@ -1,5 +1,5 @@
 -- What the definition of making gives.
-use mathlib.Core.Path.{sym, subst}
+use Rattle.std.proofs.Common.{sym, subst}
 use Rattle.operations.specs.Make.{MakeEnd}
 use Rattle.promises.specs.Making.{MakeNumbers}
 use Rattle.promises.proofs.Making.{make_numbers}

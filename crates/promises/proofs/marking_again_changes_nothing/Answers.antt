@@ -1,5 +1,5 @@
 -- A stored mark is kept by the definition.
-use mathlib.Core.Path.{◌≡◌, sym, subst}
+use Rattle.std.proofs.Common.{◌≡◌, sym, subst}
 use Rattle.marks.specs.Page.{used}
 use Rattle.marks.specs.Marking.{MarkEnd}
 use Rattle.promises.proofs.Marking.{mark_again}

@@ -1,5 +1,5 @@
 -- What the definition of marking gives.
-use mathlib.Core.Path.{sym, subst}
+use Rattle.std.proofs.Common.{sym, subst}
 use Rattle.marks.specs.Marking.{MarkEnd}
 use Rattle.marks.specs.Shown.{MarkNumbers}
 use Rattle.marks.proofs.Marking.{mark_numbers}

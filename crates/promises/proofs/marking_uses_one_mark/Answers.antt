@@ -1,12 +1,10 @@
 -- By the law `mark_changes`, for a page of bytes.
-use mathlib.Core.Path.{◌≡◌, sym, subst}
-use Prim.Native.Nat.{◌-◌}
+use Rattle.std.proofs.Common.{◌≡◌, ◌-◌, get_or, sym, subst, w8, Fits, rules}
 use Rattle.lists.specs.Bytes.{Bytes}
 use Rattle.marks.specs.Page.{used}
 use Rattle.marks.specs.Marking.{MarkEnd}
 use Rattle.marks.specs.Shown.{OneMark}
 use Rattle.marks.proofs.Marking.{mark_changes}
-use Rattle.std.proofs.Common.{Fits, w8, get_or, rules}
 use Rattle.promises.proofs.marking_uses_one_mark.Goals as goal
 
 pub returns : goal.returns

@@ -1,5 +1,5 @@
 -- A refusal of the definition keeps both buffers.
-use mathlib.Core.Path.{◌≡◌, sym, subst}
+use Rattle.std.proofs.Common.{◌≡◌, sym, subst}
 use Rattle.operations.specs.Make.{MakeEnd}
 use Rattle.promises.proofs.Making.{make_refused}
 use Rattle.promises.proofs.refused_making_changes_nothing.Goals as goal

@@ -1,5 +1,5 @@
 -- A refusal of the definition keeps the page.
-use mathlib.Core.Path.{◌≡◌, sym, subst}
+use Rattle.std.proofs.Common.{◌≡◌, sym, subst}
 use Rattle.marks.specs.Marking.{MarkEnd}
 use Rattle.promises.proofs.Marking.{mark_refused}
 use Rattle.promises.proofs.refused_marking_changes_nothing.Goals as goal

@@ -1,5 +1,5 @@
 -- A refusal of the definition hands out nothing.
-use mathlib.Core.Path.{◌≡◌, sym, subst}
+use Rattle.std.proofs.Common.{◌≡◌, sym, subst}
 use Rattle.marks.specs.declared.Reserved.{Reserved}
 use Rattle.promises.proofs.Marking.{reserve_refused}
 use Rattle.promises.proofs.refused_reserving_hands_out_nothing.Goals as goal

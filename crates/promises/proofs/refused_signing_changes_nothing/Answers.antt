@@ -1,5 +1,5 @@
 -- A refusal of the definition keeps the buffer.
-use mathlib.Core.Path.{◌≡◌, sym, subst}
+use Rattle.std.proofs.Common.{◌≡◌, sym, subst}
 use Rattle.operations.specs.Sign.{SignEnd}
 use Rattle.promises.proofs.Signing.{sign_refused}
 use Rattle.promises.proofs.refused_signing_changes_nothing.Goals as goal

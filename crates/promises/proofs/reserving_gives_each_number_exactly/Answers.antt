@@ -1,5 +1,5 @@
 -- What the definition of reserving gives.
-use mathlib.Core.Path.{sym, subst}
+use Rattle.std.proofs.Common.{sym, subst}
 use Rattle.marks.specs.Shown.{ReserveNumbers}
 use Rattle.marks.specs.declared.Reserved.{Reserved}
 use Rattle.marks.proofs.Marking.{reserve_numbers}

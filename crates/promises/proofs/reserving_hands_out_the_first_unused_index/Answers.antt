@@ -1,6 +1,5 @@
 -- What the definition hands out.
-use mathlib.Core.Path.{◌≡◌, sym, subst}
-use Prim.Native.Nat.{◌+◌, ◌/◌}
+use Rattle.std.proofs.Common.{◌≡◌, ◌+◌, ◌/◌, sym, subst}
 use Rattle.marks.specs.Page.{used}
 use Rattle.marks.specs.declared.Reserved.{Reserved}
 use Rattle.promises.proofs.Marking.{reserve_first}

@@ -1,6 +1,5 @@
 -- What the definition gives where it refuses nothing.
-use mathlib.Core.Path.{◌≡◌, sym, ap, subst}
-use Prim.Native.Nat.{◌-◌}
+use Rattle.std.proofs.Common.{◌≡◌, ◌-◌, sym, ap, subst}
 use Rattle.rfc8391.specs.Formats.{signature_bytes}
 use Rattle.keyed.specs.Sha2.{sha2}
 use Rattle.records.specs.Records.{record_from}

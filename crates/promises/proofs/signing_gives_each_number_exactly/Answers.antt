@@ -1,5 +1,5 @@
 -- What the definition of signing gives.
-use mathlib.Core.Path.{sym, subst}
+use Rattle.std.proofs.Common.{sym, subst}
 use Rattle.operations.specs.Sign.{SignEnd}
 use Rattle.promises.specs.Signing.{SignNumbers}
 use Rattle.promises.proofs.Signing.{sign_numbers}

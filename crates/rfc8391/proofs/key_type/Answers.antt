@@ -1,6 +1,5 @@
 -- Each arm is its line of the definition; the last is left where no test holds.
-use Rattle.std.proofs.Common.{arith}
-use borrow.Author.Tests.{ne_eqb}
+use Rattle.std.proofs.Common.{arith, ne_eqb}
 use Rattle.rfc8391.specs.Formats.{value_length, key_type, signature_length, path_start}
 use Rattle.rfc8391.proofs.key_type.Goals as goal
 

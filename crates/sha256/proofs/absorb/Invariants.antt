@@ -1,10 +1,7 @@
--- After i turns of the loop, i blocks are hashed.
-use Rattle.std.proofs.Common.{◌≡◌, ◌-◌, ◌≤◌}
+-- After as many turns of the loop, so many blocks are hashed.
+use Rattle.std.proofs.Common.{◌≡◌}
 use Rattle.sha256.specs.Sha256.{hashed}
 use Rattle.sha256.proofs.absorb.Given as goal
 
-abbrev pub invariant-loop-i : goal.invariant-loop-i
-invariant-loop-i l = (l.i ≤ l.n) × (l.v ≡ hashed l.i l.initial.v l.m)
-
-abbrev pub decreases-loop-i : goal.decreases-loop-i
-decreases-loop-i l = l.n - l.i
+abbrev pub invariant-loop-bytes : goal.invariant-loop-bytes
+invariant-loop-bytes l = l.v ≡ hashed l.bytes-index l.initial.v l.m

@@ -1,10 +1,7 @@
--- After t rounds, four more.
-use Rattle.std.proofs.Common.{◌≡◌, ◌-◌, ◌%◌, ◌≤◌}
+-- After as many turns of the loop, four rounds each.
+use Rattle.std.proofs.Common.{◌≡◌, ◌*◌, length}
 use Rattle.sha256.specs.Sha256.{rounds}
 use Rattle.sha256.proofs.all_rounds.Given as goal
 
-abbrev pub invariant-loop-t : goal.invariant-loop-t
-invariant-loop-t l = (l.t ≤ 64) × (l.t % 4 ≡ 0) × (l.v ≡ rounds l.t l.initial.v l.w)
-
-abbrev pub decreases-loop-t : goal.decreases-loop-t
-decreases-loop-t l = 64 - l.t
+abbrev pub invariant-loop-k : goal.invariant-loop-k
+invariant-loop-k l = l.v ≡ rounds (4 * length l.yielded) l.initial.v l.fn.w

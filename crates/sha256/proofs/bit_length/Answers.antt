@@ -1,21 +1,9 @@
--- Each byte of 8 * n, by the powers of two that n is divided by.
-use Rattle.std.proofs.Common.{◌≡◌, ◌*◌, ◌/◌, ◌%◌, arith}
-use Rattle.sha256.proofs.Endings.{byte_of_bits}
-use Rattle.lists.specs.Bytes.{to_byte}
+-- The bytes of 8 * n modulo 2 ^ 64 are those of 8 * n.
+use Rattle.std.proofs.Common.{◌*◌, sym, ◌∙◌, mul_comm}
+use Rattle.lists.proofs.Numbers.{to_byte-mod}
+use Rattle.lists.proofs.Methods.{to_byte_is}
 use Rattle.sha256.proofs.bit_length.Goals as goal
 
 pub returns : goal.returns
-unfolding to_byte
 returns c =
-    let n = c.args.n in
-    let e : n % 0x20 * 8 ≡ 8 * n / 1 % 256 = omega arith in
-    rw (
-      byte_of_bits n 0x20_0000_0000_0000,
-      byte_of_bits n 0x2000_0000_0000,
-      byte_of_bits n 0x20_0000_0000,
-      byte_of_bits n 0x2000_0000,
-      byte_of_bits n 0x20_0000,
-      byte_of_bits n 0x2000,
-      byte_of_bits n 0x20,
-      e,
-    )
+    c.to_be_bytes.ensures ∙ sym (to_byte_is _ 8) ∙ to_byte-mod (c.args.n * 8) 8 ∙ rw (mul_comm c.args.n 8)

@@ -1,34 +1,26 @@
 -- The whole blocks, then the padded rest: one block where the length has room behind it, or two.
-use Rattle.std.proofs.Common.{◌≡◌, ℕ, List, length, take, sym, refl, ap, ◌∙◌, arith, length-take-le, take_all}
+use Rattle.std.proofs.Common.{◌≡◌, length, refl, ap, ◌∙◌, arith}
 use Rattle.sha256.specs.Sha256.{hashed, digest}
 use Rattle.sha256.proofs.Endings.{finished_by}
 use Rattle.sha256.proofs.finish.Goals as goal
 
-pub slice_bounds-absorb-end : goal.slice_bounds-absorb-end
-slice_bounds-absorb-end c =
-    let n : length c.ending-p.result ≡ 128 = c.ending-p.type_inv.1.0.1 in
-    sym (length-take-le 64 c.ending-p.result (omega arith))
-
-pub returns-then-n-from-lt56 : goal.returns-then-n-from-lt56
-returns-then-n-from-lt56 c =
-    let m : List ℕ = c.args.m.now in
-    let p : List ℕ = c.ending-p.result in
+pub returns-then-rest-lt56 : goal.returns-then-rest-lt56
+returns-then-rest-lt56 c =
+    let p = c.ending-p in
     let v = c.absorb-v in
-    let n : length p ≡ 128 = c.ending-p.type_inv.1.0.1 in
-    let x : c.absorb.result ≡ hashed 1 v.result (take 64 p) = rw (length-take-le 64 p (omega arith)) at c.absorb.ensures in
+    let n : length p.result ≡ 64 = p.type_inv.1.0.1 in
+    let x : c.absorb.result ≡ hashed 1 v.result p.result = rw n at c.absorb.ensures in
     c.digest_of.ensures ∙ ap digest x
-    ∙ finished_by _ v.result _ m p _ _ 56 1 v.ensures c.wrapping_add_usize.ensures.value c.bit_length-bits.ensures refl
-    (omega arith) (omega arith) _ refl c.ending-p.ensures
+    ∙ finished_by _ v.result _ c.args.m.now p.result _ _ _ 1 v.ensures refl c.bit_length-bits.ensures
+    (omega arith) (omega arith) c.as_chunks.ensures.back p.ensures
 
-pub returns-else-n-from-lt56 : goal.returns-else-n-from-lt56
-returns-else-n-from-lt56 c =
-    let m : List ℕ = c.args.m.now in
-    let ending = c.ending-p-else-n-from-lt56 in
-    let last = c.absorb-else-n-from-lt56 in
-    let p : List ℕ = ending.result in
+pub returns-else-rest-lt56 : goal.returns-else-rest-lt56
+returns-else-rest-lt56 c =
+    let p = c.ending-p-else-rest-lt56 in
     let v = c.absorb-v in
-    let n : length p ≡ 128 = ending.type_inv.1.0.1 in
-    let x : last.result ≡ hashed 2 v.result (take 128 p) = rw (take_all 128 p (omega arith)) (rw n at last.ensures) in
-    c.digest_of-else-n-from-lt56.ensures ∙ ap digest x
-    ∙ finished_by _ v.result _ m p _ _ 120 2 v.ensures c.wrapping_add_usize.ensures.value c.bit_length-bits.ensures refl
-    (omega arith) (omega arith) _ refl ending.ensures
+    let last = c.absorb-else-rest-lt56 in
+    let n : length p.result ≡ 128 = p.type_inv.1.0.1 in
+    let x : last.result ≡ hashed 2 v.result p.result = rw n at last.ensures in
+    c.digest_of-else-rest-lt56.ensures ∙ ap digest x
+    ∙ finished_by _ v.result _ c.args.m.now p.result _ _ _ 2 v.ensures refl c.bit_length-bits.ensures
+    (omega arith) (omega arith) c.as_chunks.ensures.back p.ensures

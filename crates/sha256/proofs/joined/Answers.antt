@@ -1,12 +1,10 @@
-use Rattle.std.proofs.Common.{replicate, refl, arith, rules}
-use Rattle.lists.proofs.Joining.{joining_start, joining_more, joining_end}
+-- The first 32 bytes, then the others.
+use Rattle.std.proofs.Common.{◌≡◌, ℕ, List, length, replicate, append-nil, take_at, drop_at, rules}
 use Rattle.sha256.proofs.joined.Goals as goal
 
-pub loop-i-init : goal.loop-i-init
-loop-i-init c = joining_start 32 c.args.a c.args.b (replicate 64 0) refl
-
-pub loop-i-preserved : goal.loop-i-preserved
-loop-i-preserved c = joining_more 32 _ _ _ _ 0 (search rules) (search rules) (omega arith) c.loop-i.invariant
-
 pub returns : goal.returns
-returns c = joining_end 32 _ _ _ _ (search rules) (search rules) (omega arith) c.loop-i.invariant
+returns c =
+    let a : List ℕ = c.args.a in
+    let z : List ℕ = replicate 32 0 in
+    let n : length a ≡ 32 = search rules in
+    rw (c.copy_from_slice.ensures.after, c.copy_from_slice-2.ensures.after, take_at a z 32 n, drop_at a z 32 n, append-nil)

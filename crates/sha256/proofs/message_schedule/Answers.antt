@@ -1,4 +1,4 @@
-use Rattle.std.proofs.Common.{◌≡◌, sym, refl, ◌∙◌, arith, length-set, take_all}
+use Rattle.std.proofs.Common.{◌≡◌, ℕ, List, length, replicate, ◌∙◌, arith, length-append, length-set, take_at, rules}
 use Rattle.sha256.proofs.Schedule.{schedule_more}
 use Rattle.sha256.specs.Sha256.{word, schedule}
 use Rattle.lists.specs.Lists.{turns}
@@ -6,20 +6,16 @@ use Rattle.sha256.proofs.message_schedule.Goals as goal
 
 pub loop-t-init : goal.loop-t-init
 unfolding schedule turns
-loop-t-init c = (omega arith, omega arith, c.with_room-w.ensures.1, refl)
+loop-t-init c =
+    let b : List ℕ = c.args.b in
+    let z : List ℕ = replicate 48 0 in
+    let n : length b ≡ 16 = search rules in
+    rw c.copy_from_slice.ensures.after (length-append b z ∙ omega (arith, n), take_at b z 16 n)
 
 pub loop-t-preserved : goal.loop-t-preserved
 unfolding word
 loop-t-preserved c =
     let l = c.loop-t in (
-      omega arith,
-      omega arith,
-      simp length-set l.invariant.2,
-      schedule_more l.w _ l.t c.next_word.result (omega arith) (omega arith) l.invariant.3 c.next_word.ensures,
+      simp length-set l.invariant.0,
+      schedule_more l.w _ l.t c.next_word.result (omega arith) (omega arith) l.invariant.1 c.next_word.ensures,
     )
-
-pub returns : goal.returns
-returns c =
-    let l = c.loop-t in
-    let e : l.t ≡ 64 = omega arith in
-    sym (take_all 64 l.w (omega arith)) ∙ (rw (e, c.with_room-w.ensures.0) at l.invariant.3)

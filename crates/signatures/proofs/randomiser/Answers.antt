@@ -1,12 +1,14 @@
 -- PRF of the message key, in the suite of its seed.
-use mathlib.Core.Path.{◌≡◌, ◌∙◌}
-use lib.ListN.{take}
+use Rattle.std.proofs.Common.{◌≡◌, length, ap, ◌∙◌, ap₂, rules}
+use Rattle.keyed.specs.Sha2.{sha2}
+use Rattle.keyed.specs.Suites.{suite}
 use Rattle.keyed.proofs.Suites.{suite_sha2}
 use Rattle.signatures.proofs.Signed.{randomiser_is}
 use Rattle.signatures.proofs.randomiser.Goals as goal
 
 pub returns : goal.returns
 returns c =
-    let v : take 32 c.value_of.result ≡ c.args.prfkey.now = rw (← c.requires) c.value_of.ensures in
-    randomiser_is c.prepare-key.result _ _ _ _ _ (c.prepare-key.ensures.2 ∙ suite_sha2) c.prepare-key.ensures.1 v
-    c.to_bytes.ensures c.prf.type_inv.1.0.1 c.prf.ensures
+    let p = c.prepare.ensures in
+    let l : length c.prepare.result.bytes ≡ 32 = search rules in
+    randomiser_is c.prepare.result _ _ (ap suite p.1 ∙ suite_sha2) l c.prf.type_inv.1.0.1 c.prf.ensures
+    ∙ ap₂ sha2.PRF p.0 c.to_bytes.ensures

@@ -1,5 +1,5 @@
 -- An even position is a left one.
-use mathlib.Core.Path.{sym, ◌∙◌}
+use Rattle.std.proofs.Common.{sym, ◌∙◌}
 use Rattle.rfc8391.proofs.Trees.{climb_left, climb_right}
 use Rattle.tree.proofs.climb_by.Goals as goal
 

@@ -1,13 +1,8 @@
 -- When one value is left, the L-tree is done.
-use native.Mathlib.Omega.{arith}
-use lib.Seq.{length-take-le}
-use lib.ListN.{length, take}
-use Prim.Native.Nat.{ℕ, ◌-◌, ◌+◌, ◌*◌, ◌/◌}
-use mathlib.Core.Path.{◌≡◌, sym, ap, ◌∙◌}
+use Rattle.std.proofs.Common.{◌≡◌, ℕ, ◌+◌, ◌-◌, ◌*◌, ◌/◌, length, take, sym, ap, ◌∙◌, arith, length-take-le, rules}
 use Rattle.lists.proofs.Fronts.{length-fronts, get_or-fronts}
 use Rattle.rfc8391.specs.Wots.{len}
 use Rattle.keyed.proofs.Suites.{seed_fits}
-use borrow.Author.Rules.{rules}
 use Rattle.tree.proofs.Rounds.{ltree_by}
 use Rattle.keyed.specs.Seeds.{suite_of, held_all, seed_of}
 use Rattle.lists.proofs.Turns.{turns_more}
@@ -19,17 +14,11 @@ pub loop-w-init : goal.loop-w-init
 unfolding turns
 loop-w-init c = (
   ap (λ (k : ℕ). take (2 * k + 3) (fronts (suite_of c.args.s).n c.args.ends))
-      c.value_length_of.ensures.0,
+      c.value_length.ensures.0,
   omega arith,
   omega arith,
   search rules,
 )
-
-pub ltree_round-next-requires : goal.ltree_round-next-requires
-ltree_round-next-requires c = (c.requires, omega (arith, seed_fits c.args.s))
-
-pub overflow_add-height : goal.overflow_add-height
-overflow_add-height c = omega (arith, seed_fits c.args.s)
 
 pub loop-w-preserved : goal.loop-w-preserved
 loop-w-preserved c =

@@ -1,7 +1,5 @@
 -- After each round, what is left leads on.
-use lib.ListN.{length, take}
-use Prim.Native.Nat.{◌≤◌, ◌+◌}
-use mathlib.Core.Path.{◌≡◌}
+use Rattle.std.proofs.Common.{◌≡◌, ◌+◌, ◌≤◌, length, take}
 use Rattle.rfc8391.specs.Wots.{len}
 use Rattle.keyed.specs.Seeds.{suite_of, held_all, seed_of}
 use Rattle.rfc8391.specs.Xmss.{ltree_round}

@@ -1,6 +1,5 @@
 -- The loop joins pairs in place; a last odd value moves up.
-use lib.ListN.{take}
-use Prim.Native.Nat.{◌≤◌, ◌-◌, ◌/◌}
+use Rattle.std.proofs.Common.{take}
 use Rattle.keyed.specs.Seeds.{suite_of, seed_of}
 use Rattle.rfc8391.specs.Xmss.{ltree_node}
 use Rattle.lists.specs.Fronts.{fronts}
@@ -9,8 +8,5 @@ use Rattle.tree.proofs.ltree_round.Given as goal
 
 abbrev pub invariant-loop-i : goal.invariant-loop-i
 invariant-loop-i l =
-    Replacing (ltree_node (suite_of l.s) (seed_of l.s) l.a l.height (take l.w (fronts (suite_of l.s).n l.initial.v))) (fronts (suite_of l.s).n l.initial.v)
-    (fronts (suite_of l.s).n l.v) l.i × (l.i ≤ l.w / 2)
-
-abbrev pub decreases-loop-i : goal.decreases-loop-i
-decreases-loop-i l = l.w / 2 - l.i
+    let n = (suite_of l.s).n in
+    Replacing (ltree_node (suite_of l.s) (seed_of l.s) l.a l.height (take l.w (fronts n l.initial.v))) (fronts n l.initial.v) (fronts n l.v) l.i

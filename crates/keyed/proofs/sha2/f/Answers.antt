@@ -1,5 +1,5 @@
 -- Function 0.
-use borrow.Author.Rules.{rules}
+use Rattle.std.proofs.Common.{rules}
 use Rattle.keyed.proofs.Blocks.{keyed_by_one}
 use Rattle.keyed.proofs.sha2.f.Goals as goal
 

@@ -1,5 +1,5 @@
 -- Function 1, of two halves.
-use borrow.Author.Rules.{rules}
+use Rattle.std.proofs.Common.{rules}
 use Rattle.keyed.proofs.Blocks.{keyed_by_data}
 use Rattle.keyed.proofs.sha2.h.Goals as goal
 

@@ -1,5 +1,5 @@
 -- Function 2, whose key is r, the root and the index.
-use borrow.Author.Rules.{rules}
+use Rattle.std.proofs.Common.{rules}
 use Rattle.keyed.proofs.Blocks.{keyed_by_key}
 use Rattle.keyed.proofs.sha2.message_digest.Goals as goal
 

@@ -1,6 +1,0 @@
--- Both are what the definition gives.
-use mathlib.Core.Path.{sym, ◌∙◌}
-use Rattle.promises.proofs.marking_has_one_answer.Goals as goal
-
-pub returns : goal.returns
-returns c = λ x q. q ∙ sym c.mark.ensures
