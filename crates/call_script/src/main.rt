@@ -4,7 +4,7 @@
 
 #![tactic(auto)]
 
-ghost use Rattle.std.specs.Prelude.{◌≡◌, ◌<◌, length, IfSome};
+ghost use Rattle.std.specs.Prelude.{◌≡◌, ◌<◌, ◌≤◌, length, IfSome};
 
 const STDIN: i32 = 0;
 
@@ -220,11 +220,21 @@ impl<'a> Call<'a> {
     }
 }
 
-fn answer_all(text: &[u8], script: &mut [u8]) {
+// A text is as long as the longest message and a byte more, so that a message can be too long.
+fn answer_all(text: &[u8], script: &mut [u8])
+    requires { (65537 ≤ length text.now) × (length text.now ≤ 65537) }
+{
     let mut rest = script;
     while let Some((mut call, behind)) = Call::read(text, rest) {
         call.answer();
         rest = behind;
+    }
+}
+
+// A script's text, and its calls to the end. One that is shorter than its text has none.
+fn answer_script(script: &mut [u8]) {
+    if let Some((text, calls)) = script.split_at_mut_checked(LONGEST) {
+        answer_all(text, calls);
     }
 }
 
@@ -238,7 +248,5 @@ fn zeros<const N: usize>() -> [u8; N]
 fn main() {
     let mut input = zeros::<524288>();
     let end = io::read_full(STDIN, &mut input);
-    if let Some((text, calls)) = input[..end].split_at_mut_checked(LONGEST) {
-        answer_all(text, calls);
-    }
+    answer_script(&mut input[..end]);
 }

@@ -4,7 +4,7 @@
 
 #![tactic(auto)]
 
-use frames::State;
+use frames::Checker;
 
 const STDIN: i32 = 0;
 
@@ -25,15 +25,15 @@ fn main() {
     let mut message = [0u8; FRAME];
     let mut out = [0u8; OUT];
     let mut chunk = io::buffer();
-    let mut state = State::start(&mut frame, &mut key, &mut message);
+    let mut checker = Checker::start(&mut frame, &mut key, &mut message);
     for _ in 0..TURNS {
         let got = io::read_full(STDIN, &mut chunk);
         if got == 0 {
             break;
         }
-        let n = state.take_chunk(&chunk[..got], &mut out);
+        let n = checker.take_chunk(&chunk[..got], &mut out);
         io::write_all(STDOUT, &out[..n]);
     }
-    let n = state.end_input(&mut out);
+    let n = checker.end_input(&mut out);
     io::write_all(STDOUT, &out[..n]);
 }

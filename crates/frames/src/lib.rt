@@ -9,7 +9,7 @@ ghost use Rattle.lists.specs.Lists.{flat};
 ghost use Rattle.lines.specs.Steps.{stepped, run_of};
 ghost use Rattle.lines.specs.Reading.{start, closed, char_step, end_input, written};
 ghost use Rattle.frames.specs.Frames.{latest, answer, output_of};
-ghost use Rattle.frames.specs.Buffers.{says};
+ghost use Rattle.frames.specs.Buffers.{latest_in, sess, start_state, says, Holds, Ready, SameBuffers};
 
 use lines::Line;
 use std::marker::Model;
@@ -17,81 +17,34 @@ use std::marker::Model;
 // What a line that is no frame is answered.
 const NO_FRAME: u32 = 12;
 
-// A text at the front of a buffer that the caller lends: a Vec would need a heap, which this project has not.
-#[derive(Drop)]
-pub struct Kept<'a> {
-    pub buffer: &'a mut [u8],
-    pub len: usize,
+// How many bytes at the front of their buffers the latest key and message take: a Vec would need a heap, which this project has not.
+#[derive(Clone, Copy)]
+pub struct Kept {
+    pub key: usize,
+    pub message: usize,
 }
 
-impl<'a> Model for Kept<'a> {
-    ghost use Rattle.std.specs.Prelude.{◌≤◌, length, take};
-    ghost use Rattle.frames.specs.Buffers.{InBuffer};
-
-    ghost Value = { InBuffer };
-
-    ghost view = { λ k. record { text = take k.len k.buffer.now; room = length k.buffer.now } };
-
-    ghost invariant = { λ k. k.len ≤ length k.buffer.now };
-}
-
-impl<'a> Kept<'a> {
-    fn new(buffer: &'a mut [u8]) -> Kept<'a>
-        ensures { result ≡ record { text = []; room = length buffer.old } }
-    {
-        Kept { buffer, len: 0 }
-    }
-
-    fn as_slice(&self) -> &[u8]
-        ensures { result.now ≡ self.now.text }
-    {
-        &self.buffer[..self.len]
-    }
-
-    // Keeps this text in place of the one before.
-    fn set(&mut self, text: &[u8])
-        requires { length text.now ≤ self.old.room }
-        ensures { self.new ≡ record { text = text.now; room = self.old.room } }
-    {
-        copy_front(text, self.buffer);
-        self.len = text.len();
-    }
-}
-
-fn copy_front(text: &[u8], buffer: &mut [u8])
-    requires { length text.now ≤ length buffer.old }
-    ensures { buffer.new ≡ text.now ++ drop (length text.now) buffer.old }
-{
-    buffer[..text.len()].copy_from_slice(text);
-}
-
-// The latest key and message.
-#[derive(Drop)]
-pub struct Latest<'a> {
-    pub key: Kept<'a>,
-    pub message: Kept<'a>,
-}
-
-impl<'a> Latest<'a> {
+impl Kept {
     // A key or a message is kept, and a signature or what is no frame has an outcome. The numbers of the kinds are read here alone.
     #[tactic(auto, unfolding(crate::specs::Frames::answer, crate::specs::Frames::framed))]
-    fn answer(&mut self, line: Option<&[u8]>) -> Option<u32>
-        requires { IfSome line (λ l. (length l.now ≤ self.old.key.room) × (length l.now ≤ self.old.message.room)) }
-        ensures by_index { (n : ℕ) → stepped (latest self.new.key.text self.new.message.text) (says n result)
-            ≡ answer (latest self.old.key.text self.old.message.text) n (option_copied line.entry) }
-        ensures room { (self.new.key.room ≡ self.old.key.room) × (self.new.message.room ≡ self.old.message.room) }
+    fn answer(&mut self, line: Option<&[u8]>, key: &mut [u8], message: &mut [u8]) -> Option<u32>
+        requires room { IfSome line (λ l. (length l.now ≤ length key.old) × (length l.now ≤ length message.old)) }
+        requires holds { Holds key.old message.old self.old }
+        ensures holds { Holds key.new message.new self.new }
+        ensures by_index { (n : ℕ) → stepped (latest_in key.new message.new self.new) (says n result)
+            ≡ answer (latest_in key.old message.old self.old) n (option_copied line.entry) }
     {
         match line {
             Some([1, rest @ ..]) => {
-                self.key.set(rest);
+                self.key = keep(rest, key);
                 None
             }
             Some([2, rest @ ..]) => {
-                self.message.set(rest);
+                self.message = keep(rest, message);
                 None
             }
             Some([3, rest @ ..]) => {
-                let checked = operations::check(self.key.as_slice(), self.message.as_slice(), rest);
+                let checked = operations::check(&key[..self.key], &message[..self.message], rest);
                 Some(checked.outcome)
             }
             _ => Some(NO_FRAME),
@@ -99,59 +52,49 @@ impl<'a> Latest<'a> {
     }
 }
 
-// The run so far: the line so far, whether one has begun, how many ended, and what they left. `begun` is a field beside the
-// line, as in the definition's `Session`: the line's buffer stays here between two lines.
-#[derive(Drop)]
-pub struct State<'a> {
-    pub line: Line<'a>,
+// Copies a text to the front of a buffer that has room for it, and answers how long it is.
+fn keep(text: &[u8], buffer: &mut [u8]) -> usize
+    requires { length text.now ≤ length buffer.old }
+    ensures len { result ≡ length text.now }
+    ensures after { buffer.new ≡ text.now ++ drop (length text.now) buffer.old }
+{
+    buffer[..text.len()].copy_from_slice(text);
+    text.len()
+}
+
+// The run so far: the line so far, whether one has begun, how many ended, and what they left. Its buffers are the caller's, and are lent
+// to each call, so that a state can be copied. `begun` is a field beside the line, as in the definition's `Session`.
+#[derive(Clone, Copy)]
+pub struct State {
+    pub line: Line,
     pub begun: bool,
     pub number: u64,
-    pub kept: Latest<'a>,
+    pub kept: Kept,
 }
 
-impl<'a> Model for State<'a> {
-    ghost use Rattle.std.specs.Prelude.{◌≤◌, length};
-    ghost use Rattle.lines.specs.Reading.{session, read};
-    ghost use Rattle.frames.specs.Frames.{latest};
-    ghost use Rattle.frames.specs.Buffers.{Run};
-
-    ghost Value = { Run };
-
-    ghost view = { λ s. record {
-      frame = s.line.frame.now;
-      session = session s.number s.begun (read s.line) (latest s.kept.key.text s.kept.message.text);
-    } };
-
-    ghost invariant = { λ s. (s.line.len ≤ length s.line.frame.now) × (length s.line.frame.now ≤ s.kept.key.room) × (length s.line.frame.now ≤ s.kept.message.room) };
-}
-
-impl<'a> State<'a> {
-    // A frame may be kept as key or as message, so none is longer than the shortest of the buffers.
-    pub fn start(frame: &'a mut [u8], key: &'a mut [u8], message: &'a mut [u8]) -> State<'a>
-        ensures frame { length result.frame ≡ min (length frame.old) (min (length key.old) (length message.old)) }
-        ensures session { result.session ≡ start (latest [] []) }
+impl State {
+    pub fn start() -> State
+        ensures { result ≡ start_state }
     {
-        let room = frame.len().min(key.len().min(message.len()));
         State {
-            line: Line::new(&mut frame[..room]),
+            line: Line::new(),
             begun: false,
             number: 0,
-            kept: Latest {
-                key: Kept::new(key),
-                message: Kept::new(message),
-            },
+            kept: Kept { key: 0, message: 0 },
         }
     }
 
     // The end of a line, with what is told of it. That it can still be counted is asked of each step: no state by itself is the last.
     #[tactic(auto, unfolding(lines::specs::Reading::closed))]
-    fn close_line(&mut self) -> Option<u32>
-        requires few { self.old.session.number + 1 < 2 ^ 64 }
-        ensures result_after { stepped self.new.session (says self.new.session.number result) ≡ closed answer self.old.session }
-        ensures frame { self.new.frame ≡ self.old.frame }
-        ensures n_bound { self.new.session.number ≤ self.old.session.number + 1 }
+    fn close_line(&mut self, frame: &[u8], key: &mut [u8], message: &mut [u8]) -> Option<u32>
+        requires ready { Ready frame.now key.old message.old self.old }
+        requires few { self.old.number + 1 < 2 ^ 64 }
+        ensures stays_ready { Ready frame.now key.new message.new self.new }
+        ensures result_after { stepped (sess frame.now key.new message.new self.new) (says self.new.number result)
+            ≡ closed answer (sess frame.now key.old message.old self.old) }
+        ensures n_bound { self.new.number ≤ self.old.number + 1 }
     {
-        let told = self.kept.answer(self.line.held());
+        let told = self.kept.answer(self.line.held(frame), key, message);
         self.line.clear();
         self.begun = false;
         self.number += 1;
@@ -160,16 +103,24 @@ impl<'a> State<'a> {
 
     // One character of the input, with what is told of a line that it ends.
     #[tactic(auto, unfolding(lines::specs::Reading::char_step))]
-    fn advance(&mut self, c: u8) -> Option<u32>
-        requires few { self.old.session.number + 1 < 2 ^ 64 }
-        ensures result_after { stepped self.new.session (says self.new.session.number result) ≡ char_step (length self.old.frame) answer self.old.session c }
-        ensures frame { length self.new.frame ≡ length self.old.frame }
-        ensures n_bound { self.new.session.number ≤ self.old.session.number + 1 }
+    fn advance(
+        &mut self,
+        c: u8,
+        frame: &mut [u8],
+        key: &mut [u8],
+        message: &mut [u8],
+    ) -> Option<u32>
+        requires ready { Ready frame.old key.old message.old self.old }
+        requires few { self.old.number + 1 < 2 ^ 64 }
+        ensures stays_ready { Ready frame.new key.new message.new self.new }
+        ensures result_after { stepped (sess frame.new key.new message.new self.new) (says self.new.number result)
+            ≡ char_step (length frame.old) answer (sess frame.old key.old message.old self.old) c }
+        ensures n_bound { self.new.number ≤ self.old.number + 1 }
     {
         if c == b'\n' {
-            return self.close_line();
+            return self.close_line(frame, key, message);
         }
-        self.line.put(c);
+        self.line.put(frame, c);
         self.begun = true;
         None
     }
@@ -177,7 +128,7 @@ impl<'a> State<'a> {
     // Puts what is told of the line that ended last at the front of out. Room is asked of each call: out is the caller's, not the state's.
     fn write_told(&self, told: Option<u32>, out: &mut [u8]) -> usize
         requires { 42 ≤ length out.old }
-        ensures out_after { take result out.new ≡ says self.now.session.number told }
+        ensures out_after { take result out.new ≡ says self.now.number told }
         ensures upper_bound { result ≤ 42 }
     {
         match told {
@@ -189,16 +140,25 @@ impl<'a> State<'a> {
     // A chunk of the input, with all of its output from the start of out. A line of output has at most 42 bytes, and a
     // character ends at most one line.
     #[tactic(auto, using(crate::proofs::Sessions::turn_next, lines::proofs::Runs::turn_end))]
-    pub fn take_chunk(&mut self, chunk: &[u8], out: &mut [u8]) -> usize
-        requires chunk_in_bounds { (42 * length chunk.now ≤ length out.old) × (self.old.session.number + length chunk.now < 2 ^ 64) }
-        requires frame_len { length self.old.frame ≡ 16384 }
-        ensures result_after { stepped self.new.session (take result out.new) ≡ run_of (char_step 16384 answer) self.old.session chunk.now }
-        ensures frame { length self.new.frame ≡ length self.old.frame }
-        ensures n_in_bounds { (result ≤ length out.old) × (self.new.session.number ≤ self.old.session.number + length chunk.now) }
+    pub fn take_chunk(
+        &mut self,
+        chunk: &[u8],
+        frame: &mut [u8],
+        key: &mut [u8],
+        message: &mut [u8],
+        out: &mut [u8],
+    ) -> usize
+        requires ready { Ready frame.old key.old message.old self.old }
+        requires chunk_in_bounds { (42 * length chunk.now ≤ length out.old) × (self.old.number + length chunk.now < 2 ^ 64) }
+        requires frame_len { length frame.old ≡ 16384 }
+        ensures stays_ready { Ready frame.new key.new message.new self.new }
+        ensures result_after { stepped (sess frame.new key.new message.new self.new) (take result out.new)
+            ≡ run_of (char_step 16384 answer) (sess frame.old key.old message.old self.old) chunk.now }
+        ensures n_in_bounds { (result ≤ length out.old) × (self.new.number ≤ self.old.number + length chunk.now) }
     {
         let mut n = 0;
         for &c in chunk {
-            let told = self.advance(c);
+            let told = self.advance(c, frame, key, message);
             n += self.write_told(told, &mut out[n..]);
         }
         n
@@ -206,19 +166,114 @@ impl<'a> State<'a> {
 
     // The end of the input, which ends a line that has begun.
     #[tactic(auto, unfolding(lines::specs::Reading::end_input))]
+    pub fn end_input(
+        &mut self,
+        frame: &[u8],
+        key: &mut [u8],
+        message: &mut [u8],
+        out: &mut [u8],
+    ) -> usize
+        requires ready { Ready frame.now key.old message.old self.old }
+        requires in_bounds { (42 ≤ length out.old) × (self.old.number + 1 < 2 ^ 64) }
+        requires frame_len { length frame.now ≡ 16384 }
+        ensures stays_ready { Ready frame.now key.new message.new self.new }
+        ensures result_after { stepped (sess frame.now key.new message.new self.new) (take result out.new)
+            ≡ end_input answer (sess frame.now key.old message.old self.old) }
+        ensures n_in_bounds { result ≤ length out.old }
+    {
+        if self.begun {
+            let told = self.close_line(frame, key, message);
+            self.write_told(told, out)
+        } else {
+            0
+        }
+    }
+
+    // The same, for a caller whose buffers are fields of one struct: the borrow checker lends those side by side as `&mut` alone.
+    fn end_in_fields(
+        &mut self,
+        frame: &mut [u8],
+        key: &mut [u8],
+        message: &mut [u8],
+        out: &mut [u8],
+    ) -> usize
+        requires ready { Ready frame.old key.old message.old self.old }
+        requires in_bounds { (42 ≤ length out.old) × (self.old.number + 1 < 2 ^ 64) }
+        requires frame_len { length frame.old ≡ 16384 }
+        ensures stays_ready { Ready frame.new key.new message.new self.new }
+        ensures result_after { stepped (sess frame.new key.new message.new self.new) (take result out.new)
+            ≡ end_input answer (sess frame.old key.old message.old self.old) }
+        ensures frame { frame.new ≡ frame.old }
+        ensures n_in_bounds { result ≤ length out.old }
+    {
+        self.end_input(frame, key, message, out)
+    }
+}
+
+// A run with its buffers, which the caller lends once: what a state asks of them at each call stands in the type.
+#[derive(Drop)]
+pub struct Checker<'a> {
+    pub frame: &'a mut [u8],
+    pub key: &'a mut [u8],
+    pub message: &'a mut [u8],
+    pub state: State,
+}
+
+impl<'a> Model for Checker<'a> {
+    ghost use Rattle.frames.specs.Buffers.{Run, Ready, sess};
+
+    ghost Value = { Run };
+
+    ghost view = { λ c. record {
+      frame = c.frame.now;
+      key = c.key;
+      message = c.message;
+      session = sess c.frame.now c.key.now c.message.now c.state;
+    } };
+
+    ghost invariant = { λ c. Ready c.frame.now c.key.now c.message.now c.state };
+}
+
+impl<'a> Checker<'a> {
+    // A frame may be kept as key or as message, so none is longer than the shortest of the buffers.
+    pub fn start(frame: &'a mut [u8], key: &'a mut [u8], message: &'a mut [u8]) -> Checker<'a>
+        ensures frame { length result.frame ≡ min (length frame.old) (min (length key.old) (length message.old)) }
+        ensures session { result.session ≡ start (latest [] []) }
+        ensures buffers { (result.key ≡ key.entry) × (result.message ≡ message.entry) }
+    {
+        let room = frame.len().min(key.len().min(message.len()));
+        Checker {
+            frame: &mut frame[..room],
+            key,
+            message,
+            state: State::start(),
+        }
+    }
+
+    // A chunk of the input, as `State::take_chunk` takes it.
+    pub fn take_chunk(&mut self, chunk: &[u8], out: &mut [u8]) -> usize
+        requires chunk_in_bounds { (42 * length chunk.now ≤ length out.old) × (self.old.session.number + length chunk.now < 2 ^ 64) }
+        requires frame_len { length self.old.frame ≡ 16384 }
+        ensures result_after { stepped self.new.session (take result out.new) ≡ run_of (char_step 16384 answer) self.old.session chunk.now }
+        ensures frame { length self.new.frame ≡ length self.old.frame }
+        ensures buffers { SameBuffers self.old self.new }
+        ensures n_in_bounds { (result ≤ length out.old) × (self.new.session.number ≤ self.old.session.number + length chunk.now) }
+    {
+        self.state
+            .take_chunk(chunk, self.frame, self.key, self.message, out)
+    }
+
+    // The end of the input, as `State::end_input` has it.
     pub fn end_input(&mut self, out: &mut [u8]) -> usize
         requires in_bounds { (42 ≤ length out.old) × (self.old.session.number + 1 < 2 ^ 64) }
         requires frame_len { length self.old.frame ≡ 16384 }
         ensures result_after { stepped self.new.session (take result out.new) ≡ end_input answer self.old.session }
         ensures frame { self.new.frame ≡ self.old.frame }
+        ensures buffers { SameBuffers self.old self.new }
         ensures n_in_bounds { result ≤ length out.old }
     {
-        if self.begun {
-            let told = self.close_line();
-            self.write_told(told, out)
-        } else {
-            0
-        }
+        self.state
+            .end_in_fields(self.frame, self.key, self.message, out)
     }
 }
 

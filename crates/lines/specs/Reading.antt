@@ -1,7 +1,6 @@
 -- A program that answers lines, twice: as its reader sees it, line by line, and as a step on characters, which the code makes.
 -- Over the room for a line's bytes and over any answer, which takes a state, a line's number from 1 and its content.
 use Rattle.std.specs.Prelude.{Bool, true, false, ◌||◌, Option, Some, None, is_some, List, [], ◌∷◌, ◌++◌, ℕ, ◌+◌, ◌*◌, length, take, eqb, leb}
-use Rattle.std.specs.Borrow.{MutBor}
 use Rattle.lists.specs.Lists.{pick}
 use Rattle.lines.specs.Lines.{hex_digit, content}
 use Rattle.lines.specs.Steps.{Stepped, stepped, after, chunked}
@@ -21,12 +20,12 @@ abbrev pub fresh : Sofar
 fresh = sofar [] None false
 
 -- its numbers, whatever the buffer holds
-abbrev pub fresh_line : MutBor (List ℕ) → Line
-fresh_line frame = record { frame = frame; len = 0; high = None; bad = false }
+abbrev pub fresh_line : Line
+fresh_line = record { len = 0; high = None; bad = false }
 
 -- what a buffer and a line's numbers stand for
-abbrev pub read : Line → Sofar
-read l = sofar (take l.len l.frame.now) l.high l.bad
+abbrev pub read : List ℕ → Line → Sofar
+read frame l = sofar (take l.len frame) l.high l.bad
 
 -- a half-byte more: it ends a byte where a high half waits, and else waits itself
 unfoldable pub joined : List ℕ → Option ℕ → ℕ → Sofar

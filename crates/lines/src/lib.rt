@@ -49,34 +49,33 @@ fn byte(high: Half, low: Half) -> u8
     16 * high.value + low.value
 }
 
-// The line so far: len bytes at the front of a buffer that the caller lends, a high half that waits for its low half, and
-// whether it can no longer be read. So a line of any length needs no more than the buffer, where a Vec would need a heap.
+// The line so far: len bytes at the front of a buffer that the caller keeps, a high half that waits for its low half, and
+// whether it can no longer be read. So a line of any length needs no more than the buffer, where a Vec would need a heap; and
+// it stays a value that can be copied, since the buffer is lent to each call.
 // `bad` is a field of its own: by the definition `put_of` a line that went bad keeps its bytes and the half that waits.
-#[derive(Drop)]
-pub struct Line<'a> {
-    pub frame: &'a mut [u8],
+#[derive(Clone, Copy)]
+pub struct Line {
     pub len: usize,
     pub high: Option<Half>,
     pub bad: bool,
 }
 
-impl<'a> Line<'a> {
+impl Line {
     ghost use Rattle.lines.specs.Reading.{fresh_line, read, put_of, held};
 
-    pub fn new(frame: &'a mut [u8]) -> Line<'a>
-        ensures { result ≡ fresh_line frame.entry }
+    pub fn new() -> Line
+        ensures { result ≡ fresh_line }
     {
         Line {
-            frame,
             len: 0,
             high: None,
             bad: false,
         }
     }
 
-    // Begins a new line in the same buffer.
+    // Begins a new line.
     pub fn clear(&mut self)
-        ensures { self.new ≡ fresh_line self.old.frame }
+        ensures { self.new ≡ fresh_line }
     {
         self.len = 0;
         self.high = None;
@@ -85,13 +84,11 @@ impl<'a> Line<'a> {
 
     // One character more.
     #[tactic(auto, unfolding(crate::specs::Reading::put_of, crate::specs::Reading::with_digit, crate::specs::Reading::joined))]
-    pub fn put(&mut self, c: u8)
-        ensures value { read self.new ≡ put_of (length self.old.frame.now) (read self.old) c }
-        ensures len_in_bounds { self.old.len ≤ length self.old.frame.now → self.new.len ≤ length self.old.frame.now }
-        ensures room { length self.new.frame.now ≡ length self.old.frame.now }
-        ensures same_reference { self.new.frame.ghost_name ≡ self.old.frame.ghost_name }
+    pub fn put(&mut self, frame: &mut [u8], c: u8)
+        ensures value { read frame.new self.new ≡ put_of (length frame.old) (read frame.old self.old) c }
+        ensures len_in_bounds { self.old.len ≤ length frame.old → self.new.len ≤ length frame.old }
     {
-        if self.bad || self.frame.len() <= self.len {
+        if self.bad || frame.len() <= self.len {
             self.bad = true;
             return;
         }
@@ -102,7 +99,7 @@ impl<'a> Line<'a> {
         match self.high {
             None => self.high = Some(half),
             Some(high) => {
-                self.frame[self.len] = byte(high, half);
+                frame[self.len] = byte(high, half);
                 self.len += 1;
                 self.high = None;
             }
@@ -111,14 +108,14 @@ impl<'a> Line<'a> {
 
     // What the line holds, if it ends here and can be read. A caller may have built it with any len.
     #[tactic(auto, unfolding(crate::specs::Reading::held))]
-    pub fn held(&self) -> Option<&[u8]>
-        ensures value { option_copied result ≡ held (read self.now) }
-        ensures fits { IfSome result (λ b. length b.now ≤ length self.now.frame.now) }
+    pub fn held<'a>(&self, frame: &'a [u8]) -> Option<&'a [u8]>
+        ensures value { option_copied result ≡ held (read frame.now self.now) }
+        ensures fits { IfSome result (λ b. (length b.now ≤ length frame.now) × (length b.now ≤ self.now.len)) }
     {
         if self.bad || self.high.is_some() {
             return None;
         }
-        Some(&self.frame[..self.len.min(self.frame.len())])
+        Some(&frame[..self.len.min(frame.len())])
     }
 }
 

@@ -1,9 +1,10 @@
 -- The well-formed pages: one for each number of used marks.
-use Rattle.std.proofs.Common.{◌≡◌, ℕ, suc, ◌+◌, ◌-◌, ◌*◌, ◌/◌, ◌%◌, ◌^◌, ◌<◌, ◌≤◌, min, List, length, get_or, set, replicate, sym, refl, ap, ◌∙◌, subst, arith, length-set, get_or-set_other, get_or-set_same, ext_get_or}
+use Rattle.std.proofs.Common.{◌≡◌, ℕ, suc, ◌+◌, ◌-◌, ◌*◌, ◌/◌, ◌%◌, ◌^◌, ◌<◌, ◌≤◌, min, List, length, get_or, set, replicate, sym, refl, ap, ◌∙◌, subst, div-le_self, arith, length-set, get_or-set_other, get_or-set_same, ext_get_or}
 use Rattle.std.proofs.Math.Decide.{ℕ_discrete}
 use Rattle.lists.specs.Lists.{tab}
 use Rattle.lists.specs.Bytes.{Bytes}
 use Rattle.lists.proofs.Tabs.{length-tab, get_or-tab}
+use Rattle.lists.proofs.Everywhere.{tab_all}
 use Rattle.marks.specs.Page.{bit_used, mark_used, used, used_below, WellFormed, cleared, with_mark}
 use Rattle.marks.proofs.Ordered.{FirstUsed, byte_of, page_of}
 use Rattle.marks.proofs.Tests.{ltb_same}
@@ -25,6 +26,10 @@ page_length u = length-tab 128 (byte_of u)
 pub page_at : (u j : ℕ) → j < 128 → get_or (page_of u) j 0 ≡ byte_of u j
 unfolding page_of
 page_at u j h = get_or-tab 128 (byte_of u) 0 j h
+
+pub page_bytes : (u : ℕ) → Bytes (page_of u)
+unfolding Bytes page_of byte_of
+page_bytes u = tab_all 0 (λ b. b < 256) 128 (byte_of u) (omega arith) (λ j. omega (arith, div-le_self 255 (2 ^ min 8 (u - 8 * j))))
 
 -- the fresh page
 pub fresh : replicate 128 255 ≡ page_of 0
