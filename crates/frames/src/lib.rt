@@ -1,5 +1,5 @@
 // The checking program between reading and writing: a step on characters, over buffers that the caller lends.
-// Uses checking and lines. What it prints for a whole input stands in specs/Frames.antt, line by line.
+// Uses the operations and lines. What it prints for a whole input stands in specs/Frames.antt, line by line.
 // The program check_frames stands on it.
 
 #![tactic(auto)]
@@ -188,26 +188,6 @@ impl State {
             0
         }
     }
-
-    // The same, for a caller whose buffers are fields of one struct: the borrow checker lends those side by side as `&mut` alone.
-    fn end_in_fields(
-        &mut self,
-        frame: &mut [u8],
-        key: &mut [u8],
-        message: &mut [u8],
-        out: &mut [u8],
-    ) -> usize
-        requires ready { Ready frame.old key.old message.old self.old }
-        requires in_bounds { (42 ≤ length out.old) × (self.old.number + 1 < 2 ^ 64) }
-        requires frame_len { length frame.old ≡ 16384 }
-        ensures stays_ready { Ready frame.new key.new message.new self.new }
-        ensures result_after { stepped (sess frame.new key.new message.new self.new) (take result out.new)
-            ≡ end_input answer (sess frame.old key.old message.old self.old) }
-        ensures frame { frame.new ≡ frame.old }
-        ensures n_in_bounds { result ≤ length out.old }
-    {
-        self.end_input(frame, key, message, out)
-    }
 }
 
 // A run with its buffers, which the caller lends once: what a state asks of them at each call stands in the type.
@@ -272,8 +252,9 @@ impl<'a> Checker<'a> {
         ensures buffers { SameBuffers self.old self.new }
         ensures n_in_bounds { result ≤ length out.old }
     {
-        self.state
-            .end_in_fields(self.frame, self.key, self.message, out)
+        // The borrow checker lends fields side by side as `&mut` alone, and a state takes a `&` of the frame here.
+        let frame = &mut *self.frame;
+        self.state.end_input(frame, self.key, self.message, out)
     }
 }
 

@@ -27,7 +27,7 @@ module _ (n w : ℕ) (l part v : List ℕ) (ew : w ≡ n) (ev : take (length par
       ap (λ (j : ℕ). take j v) (sym (ap (λ (r : List ℕ). length r) p ∙ q)) ∙ ev ∙ p ∙ sym (take_all n (drop (4 + n) l) (omega (arith, q)))
 
 module _ (S : Suite) (key m sig : List ℕ) (h : ℕ) where
-  -- the part of a signature from r to its path holds its values
+  -- the part of a signature between r and its path holds its values
   values_in_lem : (w p : ℕ) → w ≡ S.n → p ≡ path_start w → parts S.n (len S) 0 (take (p - (4 + w)) (drop (4 + w) sig)) ≡ (signature_from S.n h sig).values
   unfolding signature_from values_start path_start
   values_in_lem w p ew ep =
